@@ -1,0 +1,114 @@
+-- "The six calls": what each answers and leaves, on areas of any length and content, and a whole list of them.
+use Prim.Native.Nat.{ℕ}
+use mathlib.Core.Bool.{cond}
+use mathlib.Core.List.{List, [], _∷_}
+use mathlib.Core.Option.{Option, none, some}
+use Rattle.model.specs.Bytes.{within}
+use Rattle.model.specs.Geometry.{stride, partitionAt}
+use Rattle.model.specs.Opening.{geometryOf}
+use Rattle.model.specs.Keys.{partitionOf}
+use Rattle.model.specs.Partition.{partition}
+use Rattle.model.specs.Answers.{Areas, Stretch, inMemory, bytesIn, Answer, done, found, absent, shown, refused}
+use Rattle.model.specs.Refusals.{unopened}
+use Rattle.model.specs.Format.{formatChecks, formatted}
+use Rattle.model.specs.Flush.{flushChecks, flushed, written}
+use Rattle.model.specs.Put.{due, putChecks, putIn}
+use Rattle.model.specs.Get.{keyChecks, sought}
+use Rattle.model.specs.Del.{delChecks, deleted}
+use Rattle.model.specs.View.{viewChecks, viewed}
+use Rattle.model.specs.declared.Geometry.{Geometry}
+
+--     format geometry, put key value, get key, del key, flush partition, view partition page flush-number
+pub data Call : Type 0 where
+  format : Geometry → Call
+  put : ℕ → ℕ → Call
+  get : ℕ → Call
+  del : ℕ → Call
+  flush : ℕ → Call
+  view : ℕ → ℕ → ℕ → Call
+
+-- the geometry that memory opens with, and a partition's bytes
+abbrev pub geometryIn : Areas → Geometry
+geometryIn a = geometryOf (a .memory)
+
+abbrev pub partitionIn : Areas → ℕ → List ℕ
+partitionIn a t = partition (geometryIn a) t (a .memory)
+
+abbrev pub keyPartition : Areas → ℕ → List ℕ
+keyPartition a k = partitionIn a (partitionOf (geometryIn a) k)
+
+-- the refusals that are decided before any page of flash is read, in their order
+unfoldable pub checks : Areas → Call → Option ℕ
+checks a (format g) = formatChecks g a
+checks a (put k v) = unopened a (putChecks (geometryIn a) k (keyPartition a k))
+checks a (get k) = unopened a (keyChecks (geometryIn a) k (keyPartition a k) none)
+checks a (del k) = unopened a (delChecks (geometryIn a) k (keyPartition a k))
+checks a (flush t) = unopened a (flushChecks (geometryIn a) t (partitionIn a t))
+checks a (view t q n) = unopened a (viewChecks (geometryIn a) t q n (partitionIn a t))
+
+-- what a call answers that none of them stops; 13 may still come
+unfoldable pub result : Areas → Call → Answer
+result a (format g) = done 0
+result a (put k v) = done (cond (due (geometryIn a) k (keyPartition a k)) (geometryIn a .pages) 0)
+result a (get k) = sought (geometryIn a) k (keyPartition a k) (a .flash)
+result a (del k) = done 0
+result a (flush t) = done (geometryIn a .pages)
+result a (view t q n) = viewed (geometryIn a) t q n (a .flash)
+
+abbrev pub replyIf : Option ℕ → Answer → Answer
+replyIf (some n) r = refused n 0
+replyIf none r = r
+
+-- what a call answers
+unfoldable pub reply : Areas → Call → Answer
+reply a c = replyIf (checks a c) (result a c)
+
+-- both areas with partition t of memory changed by f
+abbrev pub changed : Areas → ℕ → (List ℕ → List ℕ) → List ℕ → Areas
+changed a t f flash = record { memory = within (partitionAt (geometryIn a) t) (stride (geometryIn a)) f (a .memory); flash = flash }
+
+abbrev pub writtenTo : Areas → ℕ → List ℕ
+writtenTo a t = written (geometryIn a) t (partitionIn a t) (geometryIn a .pages) (a .flash)
+
+-- what an accepted call leaves
+unfoldable pub effect : Areas → Call → Areas
+effect a (format g) = record { memory = formatted g (a .memory); flash = a .flash }
+effect a (put k v) =
+    changed a (partitionOf (geometryIn a) k) (putIn (geometryIn a) k v)
+    (cond (due (geometryIn a) k (keyPartition a k)) (writtenTo a (partitionOf (geometryIn a) k)) (a .flash))
+effect a (get k) = a
+effect a (del k) = changed a (partitionOf (geometryIn a) k) (deleted (geometryIn a) k) (a .flash)
+effect a (flush t) = changed a t (flushed (geometryIn a) t) (writtenTo a t)
+effect a (view t q n) = a
+
+-- a refused call changes no byte
+abbrev pub unlessRefused : Answer → Areas → Areas → Areas
+unlessRefused (refused n r) before later = before
+unlessRefused (done n) before later = later
+unlessRefused (found v r p) before later = later
+unlessRefused (absent r) before later = later
+unlessRefused (shown s) before later = later
+
+-- what a call leaves
+unfoldable pub after : Areas → Call → Areas
+after a c = unlessRefused (reply a c) a (effect a c)
+
+-- the bytes that a view shows: of a refused one, an empty part of memory
+abbrev pub partShown : Answer → Stretch
+partShown (shown s) = s
+partShown (refused n r) = inMemory 0 0
+partShown (done n) = inMemory 0 0
+partShown (found v r p) = inMemory 0 0
+partShown (absent r) = inMemory 0 0
+
+unfoldable pub bytesShown : Areas → ℕ → ℕ → ℕ → List ℕ
+bytesShown a t q n = bytesIn a (partShown (reply a (view t q n)))
+
+-- Each call gets both areas as the last one left them.
+unfoldable pub run : Areas → List Call → Areas
+run a [] = a
+run a (c ∷ cs) = run (after a c) cs
+
+unfoldable pub replies : Areas → List Call → List Answer
+replies a [] = []
+replies a (c ∷ cs) = reply a c ∷ replies (after a c) cs

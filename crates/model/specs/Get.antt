@@ -1,0 +1,46 @@
+-- "get answers none with 0 reads for a listed key. Then it searches the buffer page. Of the live batches whose filter passes it reads the key's page: it goes through them youngest first and stops at the first page entry with the key. A found answer holds the value, the reads and where it was: buffer, or batch by number. Reads are the pages read."
+use Prim.Native.Nat.{ℕ, _+_}
+use mathlib.Core.Bool.{cond}
+use mathlib.Core.List.{List, [], _∷_}
+use mathlib.Core.Option.{Option, none, some}
+use Rattle.model.specs.Bytes.{mid}
+use Rattle.model.specs.Geometry.{slotPageAt}
+use Rattle.model.specs.Keys.{partitionOf, pageOf}
+use Rattle.model.specs.Page.{valueAt, searched, expected}
+use Rattle.model.specs.DeleteList.{listedAt}
+use Rattle.model.specs.Partition.{listedOf, listOf, bufferOf, slot, passing}
+use Rattle.model.specs.Answers.{Answer, found, absent, refused, Place, buffer, batch}
+use Rattle.model.specs.Refusals.{refuseIf, listOverfull, pageOverfull}
+use Rattle.model.specs.declared.Geometry.{Geometry}
+
+-- 12, for the key's partition with the bytes p: get and del
+unfoldable pub keyChecks : Geometry → ℕ → List ℕ → Option ℕ → Option ℕ
+keyChecks g k p later = refuseIf (listOverfull g p) 12 (refuseIf (pageOverfull g p (pageOf g k)) 12 later)
+
+-- page q of batch n of partition t
+abbrev pub batchPage : Geometry → ℕ → List ℕ → ℕ → ℕ → List ℕ
+batchPage g t f n q = mid (slotPageAt g t (slot g n) q) (g .page) f
+
+-- what a search of a page answers, and otherwise
+abbrev pub hitIn : List ℕ → ℕ → Place → Option ℕ → Answer → Answer
+hitIn page reads place (some i) later = found (valueAt page i) reads place
+hitIn page reads place none later = later
+
+-- through these batches, after so many reads; 13 counts the failed page too
+unfoldable pub readThrough : Geometry → ℕ → List ℕ → List ℕ → ℕ → Answer
+readThrough g k f [] reads = absent reads
+readThrough g k f (n ∷ ns) reads =
+    let page : List ℕ = batchPage g (partitionOf g k) f n (pageOf g k) in
+    cond (expected g (partitionOf g k) n (pageOf g k) page)
+    (hitIn page (reads + 1) (batch n) (searched k page) (readThrough g k f ns (reads + 1)))
+    (refused 13 (reads + 1))
+
+abbrev pub soughtIn : Option ℕ → Geometry → ℕ → List ℕ → List ℕ → Answer
+soughtIn (some i) g k p f = absent 0
+soughtIn none g k p f =
+    let page : List ℕ = bufferOf g p (pageOf g k) in
+    hitIn page 0 buffer (searched k page) (readThrough g k f (passing g k p) 0)
+
+-- the answer, from the key's partition with the bytes p and from flash
+unfoldable pub sought : Geometry → ℕ → List ℕ → List ℕ → Answer
+sought g k p f = soughtIn (listedAt (listedOf p) k (listOf g p)) g k p f

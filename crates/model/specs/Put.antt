@@ -1,0 +1,47 @@
+-- "put: a key in its buffer page gets the new value in its first place there; otherwise it is appended. For an append to a page with E entries the partition is flushed first; that flush counts as before the put. The first list entry of this key is removed. It reports pages written, 0 or Q."
+use Prim.Native.Nat.{ℕ, _-_}
+use mathlib.Core.Bool.{Bool, cond, not, _&&_}
+use mathlib.Core.List.{List}
+use mathlib.Core.Option.{Option, none, some}
+use lib.Dec.{eqb}
+use Rattle.model.specs.Bytes.{within}
+use Rattle.model.specs.Search.{isSome}
+use Rattle.model.specs.Geometry.{capacity, listAt, listSize, bufferAt}
+use Rattle.model.specs.Keys.{partitionOf, pageOf}
+use Rattle.model.specs.Page.{countOf, searched, stored}
+use Rattle.model.specs.DeleteList.{listedAt, struck}
+use Rattle.model.specs.Partition.{headOf, withHead, flushesOf, listedOf, listOf, bufferOf}
+use Rattle.model.specs.Refusals.{refuseIf, listOverfull, pageOverfull, somePageOverfull, lastFlush}
+use Rattle.model.specs.Flush.{flushed}
+use Rattle.model.specs.declared.Geometry.{Geometry}
+
+-- an append to a page with E entries
+unfoldable pub due : Geometry → ℕ → List ℕ → Bool
+due g k p = not (isSome (searched k (bufferOf g p (pageOf g k)))) && eqb (countOf (bufferOf g p (pageOf g k))) (capacity g)
+
+-- 12, 16, for the key's partition with the bytes p
+unfoldable pub putChecks : Geometry → ℕ → List ℕ → Option ℕ
+putChecks g k p =
+    refuseIf (listOverfull g p) 12
+    (refuseIf (pageOverfull g p (pageOf g k)) 12
+    (refuseIf (due g k p && somePageOverfull g p) 12
+    (refuseIf (due g k p && eqb (flushesOf p) lastFlush) 16 none)))
+
+-- the list without entry i, or as it is
+abbrev pub unlistedAt : Option ℕ → Geometry → List ℕ → List ℕ
+unlistedAt (some i) g p = withHead (record {
+  flushes = flushesOf p;
+  listed = listedOf p - 1;
+  rest = headOf p .rest;
+}) (within listAt (listSize g) (struck i (listedOf p)) p)
+unlistedAt none g p = p
+
+unfoldable pub unlisted : Geometry → ℕ → List ℕ → List ℕ
+unlisted g k p = unlistedAt (listedAt (listedOf p) k (listOf g p)) g p
+
+unfoldable pub buffered : Geometry → ℕ → ℕ → List ℕ → List ℕ
+buffered g k v p = within (bufferAt g (pageOf g k)) (g .page) (stored k v) p
+
+-- the partition after the put
+unfoldable pub putIn : Geometry → ℕ → ℕ → List ℕ → List ℕ
+putIn g k v p = unlisted g k (buffered g k v (cond (due g k p) (flushed g (partitionOf g k) p) p))
