@@ -1,0 +1,147 @@
+-- A filter that is made has exactly the bits of its batch's entries, and so passes exactly the keys that the entries say.
+use mathlib.Core.Path.{_≡_, refl, sym, _∙_, ap}
+use mathlib.Core.Bool.{Bool, true, false, not, _&&_, _||_, or-true, or-false, or-assoc}
+use mathlib.Core.List.{List, [], _∷_, _++_}
+use mathlib.Core.Option.{some}
+use Prim.Native.Nat.{ℕ, zero, suc, _+_, _*_, _/_, _≤_, _<_}
+use native.Mathlib.Nat.{add-zero, zero-add, mod-lt, zero-div}
+use native.Mathlib.Numerals.{add-one}
+use native.Mathlib.Decide.{ℕ-discrete}
+use native.Mathlib.Omega.{arith}
+use lib.Dec.{eqb}
+use lib.ListN.{length, getD, replicate, length-replicate}
+use borrow.Author.Tests.{eq-eqb, ne-eqb}
+use Rattle.model.specs.Bytes.{word, zeros}
+use Rattle.model.specs.Search.{firstFrom, anyFrom}
+use Rattle.model.specs.Keys.{mixed, bitOf}
+use Rattle.model.specs.Records.{keyAt}
+use Rattle.model.specs.Page.{countOf}
+use Rattle.model.specs.Geometry.{filterSize, filterAt}
+use Rattle.model.specs.Filter.{bitAt, withBit, passes, withBits, withEntries, withPages, filterFor}
+use Rattle.model.specs.Partition.{flushesOf, filterOf, bufferOf, slot}
+use Rattle.model.specs.Flush.{filtered}
+use Rattle.model.specs.declared.Geometry.{Geometry}
+use Rattle.model.proofs.Parts.{mid-within}
+use Rattle.model.proofs.Words.{word-zero}
+use Rattle.model.proofs.Lengths.{length-withBits, length-withEntries, length-withPages, length-filterFor}
+use Rattle.model.proofs.Bits.{bit-set, bit-other}
+use Rattle.model.proofs.Tables.{either, Entry, find, any, all, anyBelow, bitsBelow, bitsOf, hasBit, passesAll, passesAll-found}
+use Rattle.model.proofs.Entries.{entriesFrom, pageEntries, entries-last}
+
+abbrev pub isSet : List ℕ → ℕ → Bool
+isSet f b = eqb (bitAt f b) 1
+
+-- the bits of a filter after one was set
+pub set-withBit : (c b : ℕ) (f : List ℕ) → c / 8 < length f → isSet (withBit c f) b ≡ eqb b c || isSet f b
+set-withBit c b f l = elim (ℕ-discrete b c) [
+  | yes e ↦ rw (e, eq-eqb c c refl, bit-set c f l)
+  | no n ↦ rw (ne-eqb b c n, bit-other c b f l n)
+]
+
+-- and before any was
+set-zeros : (m b : ℕ) → isSet (zeros m) b ≡ false
+unfolding word
+set-zeros m b = let z : getD (replicate {A = ℕ} m 0) (b / 8) 0 ≡ 0 = omega (arith, word-zero 1 m (b / 8)) in rw (z, zero-div)
+
+any-append : {A : Type 0} (t : A → Bool) (l m : List A) → any t (l ++ m) ≡ any t l || any t m
+unfolding any
+any-append t [] m = refl
+any-append t (x ∷ l) m = rw (any-append t l m) (sym (or-assoc (t x) (any t l) (any t m)))
+
+or-swap : (x y z : Bool) → (x || (y || z)) ≡ (y || x || z)
+or-swap true y z = rw or-true
+or-swap false y z = rw or-false
+
+-- ---- the bits of a filter that is made
+module _ (g : Geometry) (size : g .bits ≡ 8 * filterSize g) (any-bit : 0 < g .bits) (b : ℕ) where
+  inside : (x i : ℕ) → bitOf g x i < g .bits
+  unfolding bitOf
+  inside x i = mod-lt _ any-bit
+
+  set-withBits : (x i : ℕ) (f : List ℕ) → length f ≡ filterSize g → isSet (withBits g x i f) b ≡ any (eqb b) (bitsBelow g x i) || isSet f b
+  unfolding withBits bitsBelow any
+  set-withBits x zero f e = refl
+  set-withBits x (suc i) f e =
+      set-withBit (bitOf g x i) b (withBits g x i f) (omega (arith, inside x i, length-withBits g x i f))
+      ∙ rw (set-withBits x i f e) (sym (or-assoc (eqb b (bitOf g x i)) (any (eqb b) (bitsBelow g x i)) (isSet f b)))
+
+  -- an entry that sets the bit
+  abbrev sets-it : Entry → Bool
+  sets-it e = any (eqb b) (bitsOf g (e .key))
+
+  one-more : (p : List ℕ) (i : ℕ) → any sets-it (entriesFrom 8 (suc i) 1 p) ≡ any sets-it (entriesFrom 8 i 1 p) || any (eqb b) (bitsOf g (keyAt p (i + 1)))
+  unfolding any
+  one-more p i = let e : 1 + i ≡ i + 1 = omega arith in rw (← add-one i, entries-last, any-append, e, or-false)
+
+  set-withEntries : (p : List ℕ) (i : ℕ) (f : List ℕ) → length f ≡ filterSize g → isSet (withEntries g p i f) b ≡ any sets-it (entriesFrom 8 i 1 p) || isSet f b
+  unfolding withEntries entriesFrom any
+  set-withEntries p zero f e = refl
+  set-withEntries p (suc i) f e =
+      let here = any (eqb b) (bitsOf g (keyAt p (i + 1))) in
+      let before = any sets-it (entriesFrom 8 i 1 p) in
+      set-withBits (mixed (keyAt p (i + 1))) (g .hashes) (withEntries g p i f) (length-withEntries g p i f ∙ e)
+      ∙ ap (λ (t : Bool). here || t) (set-withEntries p i f e) ∙ or-swap here before (isSet f b)
+      ∙ ap (λ (t : Bool). t || isSet f b) (sym (one-more p i))
+
+  set-withPages : (page : ℕ → List ℕ) (q : ℕ) (f : List ℕ) → length f ≡ filterSize g → isSet (withPages g page q f) b ≡ anyBelow (λ r. any sets-it (pageEntries (page r))) q || isSet f b
+  unfolding withPages anyBelow
+  set-withPages page zero f e = refl
+  set-withPages page (suc q) f e =
+      set-withEntries (page q) (countOf (page q)) (withPages g page q f) (length-withPages g page q f ∙ e)
+      ∙ rw (set-withPages page q f e) (sym (or-assoc (any sets-it (pageEntries (page q))) (anyBelow (λ r. any sets-it (pageEntries (page r))) q) (isSet f b)))
+
+  pub set-filterFor : (page : ℕ → List ℕ) → isSet (filterFor g page) b ≡ hasBit g (λ q. pageEntries (page q)) b
+  unfolding filterFor hasBit
+  set-filterFor page = set-withPages page (g .pages) (zeros (filterSize g)) (length-replicate (filterSize g) 0) ∙ rw (set-zeros (filterSize g) b) (or-false _)
+
+-- ---- what passes a filter
+-- one more number to try
+any-last : (test : ℕ → Bool) (n i : ℕ) → anyFrom (suc n) i test ≡ test (i + n) || anyFrom n i test
+unfolding firstFrom
+any-last test zero i = rw add-zero (either (test i) (λ t. simp t) (λ t. simp t))
+any-last test (suc n) i =
+    let e : i + 1 + n ≡ i + suc n = omega arith in
+    either (test i) (λ t. simp (t, or-true)) (λ t. simp t (rw e at (any-last test n (i + 1))))
+
+not-zero : (x : ℕ) → x < 2 → not (eqb x 0) ≡ eqb x 1
+not-zero zero l = refl
+not-zero (suc zero) l = refl
+not-zero (suc (suc x)) l = absurd (omega arith)
+
+not-or : (x y : Bool) → not (x || y) ≡ not x && not y
+not-or true y = refl
+not-or false y = refl
+
+-- a filter passes a key each of whose bits is set
+module _ (g : Geometry) (x : ℕ) (f : List ℕ) where
+  none-missing : (n : ℕ) → not (anyFrom n 0 (λ i. eqb (bitAt f (bitOf g x i)) 0)) ≡ all (isSet f) (bitsBelow g x n)
+  unfolding firstFrom all bitsBelow
+  none-missing zero = refl
+  none-missing (suc n) =
+      let missing : ℕ → Bool = λ i. eqb (bitAt f (bitOf g x i)) 0 in
+      ap not (any-last missing n 0) ∙ rw (zero-add, not-or, not-zero (bitAt f (bitOf g x n)) (omega arith), none-missing n)
+
+  pub passes-all : passes g x f ≡ all (isSet f) (bitsBelow g x (g .hashes))
+  unfolding passes
+  passes-all = none-missing (g .hashes)
+
+all-ext : (s t : ℕ → Bool) (l : List ℕ) → ((b : ℕ) → s b ≡ t b) → all s l ≡ all t l
+unfolding all
+all-ext s t [] h = refl
+all-ext s t (x ∷ l) h = rw (h x, all-ext s t l h)
+
+module _ (g : Geometry) (size : g .bits ≡ 8 * filterSize g) (any-bit : 0 < g .bits) (page : ℕ → List ℕ) (k : ℕ) where
+  pub passes-filterFor : passes g (mixed k) (filterFor g page) ≡ passesAll g (λ q. pageEntries (page q)) k
+  unfolding passesAll
+  passes-filterFor =
+      passes-all g (mixed k) (filterFor g page)
+      ∙ all-ext (isSet (filterFor g page)) (hasBit g (λ q. pageEntries (page q))) (bitsOf g k) (λ b. set-filterFor g size any-bit b page)
+
+  -- a batch that holds the key passes
+  pub passes-held : (q v : ℕ) → q < g .pages → find k (pageEntries (page q)) ≡ some v → passes g (mixed k) (filterFor g page) ≡ true
+  passes-held q v l h = passes-filterFor ∙ passesAll-found g k (λ r. pageEntries (page r)) q l v h
+
+-- a flush makes its slot's filter so
+pub filtered-slot : (g : Geometry) (p : List ℕ) → filterAt g (slot g (flushesOf p + 1)) + filterSize g ≤ length p → filterOf g (slot g (flushesOf p + 1)) (filtered g p) ≡ filterFor g (bufferOf g p)
+unfolding filtered
+filtered-slot g p h = mid-within (filterAt g (slot g (flushesOf p + 1))) (filterSize g) (λ _. filterFor g (bufferOf g p)) p h (length-filterFor g (bufferOf g p))
