@@ -1,0 +1,126 @@
+-- "Bench cases (P: proved)": what the definitions give, beside what the paper says.
+use Prim.Native.Nat.{ℕ}
+use Prim.Native.String.{String}
+use mathlib.Core.Path.{_≡_}
+use mathlib.Core.List.{List, [], _∷_, _++_}
+use Rattle.model.specs.declared.Geometry.{Geometry}
+use Rattle.model.specs.Bytes.{zeros}
+use Rattle.model.specs.Geometry.{capacity, memoryNeed, flashNeed}
+use Rattle.model.specs.Keys.{mixed, bitOf}
+use Rattle.model.specs.Partition.{listedOf}
+use Rattle.model.specs.Answers.{Areas, Answer, done, found, absent, shown, refused}
+use Rattle.model.specs.Text.{text}
+use Rattle.model.specs.Session.{linesOf, printed}
+use Rattle.model.specs.Calls.{Call, format, put, get, del, flush, partitionIn, run, replies}
+
+-- the session's geometry
+abbrev pub G : Geometry
+G = record { parts = 0; page = 64; pages = 1; kept = 2; bits = 64; hashes = 3; list = 1 }
+
+abbrev pub largest : Geometry
+largest = record { parts = 8; page = 4096; pages = 64; kept = 32; bits = 65536; hashes = 8; list = 1024 }
+
+-- G with one number changed
+abbrev pub withKept : ℕ → Geometry
+withKept n = record { parts = 0; page = 64; pages = 1; kept = n; bits = 64; hashes = 3; list = 1 }
+
+abbrev pub withHashes : ℕ → Geometry
+withHashes n = record { parts = 0; page = 64; pages = 1; kept = 2; bits = 64; hashes = n; list = 1 }
+
+abbrev pub withPages : ℕ → Geometry
+withPages n = record { parts = 0; page = 64; pages = n; kept = 2; bits = 64; hashes = 3; list = 1 }
+
+abbrev pub withPage : ℕ → Geometry
+withPage n = record { parts = 0; page = n; pages = 1; kept = 2; bits = 64; hashes = 3; list = 1 }
+
+abbrev pub areas : ℕ → ℕ → Areas
+areas m f = record { memory = zeros m; flash = zeros f }
+
+-- the session's words for an answer
+abbrev pub ok : ℕ → List ℕ
+ok pages = 0 ∷ pages ∷ []
+
+abbrev pub foundWith : ℕ → ℕ → List ℕ
+foundWith value reads = 1 ∷ value ∷ reads ∷ []
+
+abbrev pub noneWith : ℕ → List ℕ
+noneWith reads = 2 ∷ reads ∷ []
+
+abbrev pub refusedWith : ℕ → ℕ → List ℕ
+refusedWith number reads = 3 ∷ number ∷ reads ∷ []
+
+abbrev pub figures : Answer → List ℕ
+figures (done n) = ok n
+figures (found v r p) = foundWith v r
+figures (absent r) = noneWith r
+figures (shown s) = []
+figures (refused n r) = refusedWith n r
+
+unfoldable pub allFigures : List Answer → List (List ℕ)
+allFigures [] = []
+allFigures (a ∷ l) = figures a ∷ allFigures l
+
+-- what these calls answer after a format of just the needed areas with G
+unfoldable pub session : List Call → List (List ℕ)
+session cs = allFigures (replies (areas 144 128) (format G ∷ cs))
+
+-- and with any geometry, on areas of m and f zero bytes
+unfoldable pub formatting : Geometry → ℕ → ℕ → List (List ℕ)
+formatting g m f = allFigures (replies (areas m f) (format g ∷ []))
+
+-- the worked session
+abbrev pub input : String
+input = "(format (parts 0) (page 64) (pages 1) (kept 2) (bits 64) (hashes 3) (list 1))\n(put 1 10)\n(put 2 20)\n(put 3 30)\n(put 0 40)\n(get 2)\n(del 2)\n(get 2)\n(del 3)\n(get 3)\n(flush 0)\n(get 0)\n"
+
+abbrev pub output : String
+output = "(ok 0)\n(ok 0)\n(ok 0)\n(ok 0)\n(ok 1)\n(found 20 1)\n(ok 0)\n(none 0)\n(refused 14 0)\n(found 30 1)\n(ok 1)\n(found 40 1)\n"
+
+pub record Row : Type 0 where
+  pub given : List (List ℕ)
+  pub paper : List (List ℕ)
+
+abbrev pub numbers : List ℕ → List ℕ → Row
+numbers given paper = record { given = given ∷ []; paper = paper ∷ [] }
+
+abbrev pub answers : List (List ℕ) → List (List ℕ) → Row
+answers given paper = record { given = given; paper = paper }
+
+unfoldable pub rows : List Row
+rows =
+    -- 1: needs, and one byte less
+    numbers (memoryNeed G ∷ flashNeed G ∷ []) (144 ∷ 128 ∷ [])
+    ∷ answers (formatting G 143 128 ++ formatting G 144 127 ++ formatting G 144 128) (refusedWith 2 0 ∷ refusedWith 3 0 ∷ ok 0 ∷ [])
+    -- 2: the largest geometry
+    ∷ numbers (memoryNeed largest ∷ flashNeed largest ∷ []) (138416160 ∷ 2147483648 ∷ [])
+    -- 3: mixing
+    ∷ numbers (mixed 1 ∷ mixed 2 ∷ mixed 0 ∷ []) (0x40822041 ∷ 0x81044082 ∷ 0 ∷ [])
+    -- 4: bits of 0, 1, 2
+    ∷ numbers (bitOf G (mixed 0) 0 ∷ bitOf G (mixed 0) 1 ∷ bitOf G (mixed 0) 2 ∷ []) (0 ∷ 1 ∷ 2 ∷ [])
+    ∷ numbers (bitOf G (mixed 1) 0 ∷ bitOf G (mixed 1) 1 ∷ bitOf G (mixed 1) 2 ∷ []) (1 ∷ 2 ∷ 3 ∷ [])
+    ∷ numbers (bitOf G (mixed 2) 0 ∷ bitOf G (mixed 2) 1 ∷ bitOf G (mixed 2) 2 ∷ []) (2 ∷ 3 ∷ 4 ∷ [])
+    -- 5: a batch of keys 0 and 2 passes key 1
+    ∷ answers (session (put 0 10 ∷ put 2 20 ∷ flush 0 ∷ get 1 ∷ [])) (ok 0 ∷ ok 0 ∷ ok 0 ∷ ok 1 ∷ noneWith 1 ∷ [])
+    -- 6: three keys fill the page, a repeat of the third doesn't flush, the fourth does
+    ∷ answers (session (put 1 10 ∷ put 2 20 ∷ put 3 30 ∷ put 3 31 ∷ put 4 40 ∷ get 3 ∷ [])) (ok 0 ∷ ok 0 ∷ ok 0 ∷ ok 0 ∷ ok 0 ∷ ok 1 ∷ foundWith 31 1 ∷ [])
+    -- 7: two flushes after its put a key is found; after three it is none
+    ∷ answers (session (put 1 10 ∷ flush 0 ∷ put 20 20 ∷ flush 0 ∷ get 1 ∷ put 40 30 ∷ flush 0 ∷ get 1 ∷ []))
+    (ok 0 ∷ ok 0 ∷ ok 1 ∷ ok 0 ∷ ok 1 ∷ foundWith 10 1 ∷ ok 0 ∷ ok 1 ∷ noneWith 0 ∷ [])
+    -- 8: del of an absent key in a fresh table
+    ∷ answers (session (del 7 ∷ [])) (ok 0 ∷ ok 0 ∷ [])
+    ∷ numbers (listedOf (partitionIn (run (areas 144 128) (format G ∷ del 7 ∷ [])) 0) ∷ []) (0 ∷ [])
+    -- 9: entries of a page
+    ∷ numbers (capacity (withPage 64) ∷ capacity (withPage 4096) ∷ []) (3 ∷ 255 ∷ [])
+    -- 10: outside the table; untouched areas
+    ∷ answers (formatting (withKept 0) 144 128 ++ formatting (withKept 33) 144 128 ++ formatting (withHashes 9) 144 128 ++ formatting (withPages 3) 144 128)
+    (refusedWith 1 0 ∷ refusedWith 1 0 ∷ refusedWith 1 0 ∷ refusedWith 1 0 ∷ [])
+    ∷ answers (allFigures (replies (areas 144 128) (get 1 ∷ []))) (refusedWith 11 0 ∷ [])
+    -- "The session program": its calls, and its text over two areas of 32,768 zero bytes
+    ∷ answers (session (put 1 10 ∷ put 2 20 ∷ put 3 30 ∷ put 0 40 ∷ get 2 ∷ del 2 ∷ get 2 ∷ del 3 ∷ get 3 ∷ flush 0 ∷ get 0 ∷ []))
+    (ok 0 ∷ ok 0 ∷ ok 0 ∷ ok 0 ∷ ok 1 ∷ foundWith 20 1 ∷ ok 0 ∷ noneWith 0 ∷ refusedWith 14 0 ∷ foundWith 30 1 ∷ ok 1 ∷ foundWith 40 1 ∷ [])
+    ∷ answers (printed (linesOf (text input)) (areas 32768 32768) ∷ []) (text output ∷ [])
+    ∷ []
+
+-- every row agrees
+unfoldable pub Agree : List Row → Type 0
+Agree [] = Unit {0}
+Agree (r ∷ rs) = (r .given ≡ r .paper) × Agree rs

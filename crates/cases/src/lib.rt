@@ -1,0 +1,1 @@
+// The bench cases, computed on the definitions: the table is specs/Table.antt, the theorem proofs/Agree.antt.
