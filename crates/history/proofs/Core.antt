@@ -1,0 +1,132 @@
+-- What a table and its history have in common, but for the counting of pages, and that a flush keeps it.
+use Prim.Native.Nat.{ℕ, zero, suc, _+_, _-_, _≤_, min}
+use mathlib.Core.Bool.{true, false, cond}
+use mathlib.Core.Path.{_≡_, refl, sym, _∙_, ap}
+use mathlib.Core.List.{List}
+use mathlib.Core.Option.{Option, none, some}
+use native.Mathlib.Omega.{arith}
+use lib.Dec.{eqb}
+use lib.ListN.{length}
+use borrow.Author.Tests.{eqb-true, eqb-false, eq-eqb}
+use Rattle.model.specs.declared.Geometry.{Geometry}
+use Rattle.model.specs.Geometry.{capacity}
+use Rattle.model.specs.Keys.{partitionOf, pageOf}
+use Rattle.model.proofs.Tables.{either, Entry, find, strike, Distinct, unless, find-strike, distinct-strike, length-strike}
+use Rattle.model.proofs.Partitions.{modify, modify-at, modify-off}
+use Rattle.history.specs.History.{Known, History, older, aged, withKey}
+use Rattle.history.proofs.Basics.{numbers}
+use Rattle.history.proofs.Modify.{cond-both}
+use Rattle.history.proofs.Table.{Part, live, Live, flushed, expires}
+use Rattle.history.proofs.Told.{Told, told-same, told-flush}
+
+-- the pages of an age: the buffer at 0, then the batches, youngest first
+abbrev pub place : Part → ℕ → ℕ → List Entry
+place p zero q = p .buffer q
+place p (suc a) q = p .batch (p .flushes - a) q
+
+abbrev pub seen : Geometry → Part → ℕ → ℕ → Option ℕ
+seen g p k a = find k (place p a (pageOf g k))
+
+abbrev pub KeyOk : Geometry → Part → ℕ → Option Known → Type 0
+KeyOk g p k w = Told (g .kept) (p .flushes) (find k (p .list)) (seen g p k) w
+
+pub record PartOk (g : Geometry) (p : Part) : Type 0 where
+  pub once : Distinct (p .list)
+  pub listFits : length (p .list) ≤ g .list
+  pub stamps : (j n : ℕ) → find j (p .list) ≡ some n → Live g (p .flushes) n
+  pub apart : (q : ℕ) → Distinct (p .buffer q)
+  pub fits : (q : ℕ) → length (p .buffer q) ≤ capacity g
+
+pub record Agree (g : Geometry) (ps : ℕ → Part) (known : ℕ → Option Known) (lives₀ : ℕ → ℕ) : Type 0 where
+  pub parts : (t : ℕ) → PartOk g (ps t)
+  pub keys : (k : ℕ) → KeyOk g (ps (partitionOf g k)) k (known k)
+  pub lives : (t : ℕ) → lives₀ t ≡ live g (ps t)
+
+-- the totals do not matter here
+abbrev pub Core : (ℕ → Part) → History → Type 0
+Core ps h = Agree (h .geometry) ps (h .keys) (h .live)
+
+module _ (g : Geometry) where
+  flushed-place : (p : Part) (q a : ℕ) → place (flushed g p) (suc a) q ≡ place p a q
+  unfolding flushed
+  flushed-place p q zero = ap (λ (x : ℕ → List Entry). x q) (modify-at _ _ (p .batch) (suc (p .flushes) - 0) (omega arith))
+  flushed-place p q (suc a) =
+      let e : suc (p .flushes) - suc a ≡ p .flushes - a = omega arith in
+      ap (λ (x : ℕ → List Entry). x q) (modify-off _ _ (p .batch) (suc (p .flushes) - suc a) (omega arith)
+      ∙ ap (p .batch) e)
+
+  flushed-key : (p : Part) (k : ℕ) (w : Option Known) → PartOk g p → KeyOk g p k w → KeyOk g (flushed g p) k (older (g .kept) w)
+  unfolding flushed find
+  flushed-key p k w ok told =
+      told-same (find-strike _ k (p .list) (ok .once)) (λ a. refl)
+      (told-flush (seen g p k) (seen g (flushed g p) k) refl (λ a. ap (find k) (flushed-place p (pageOf g k) a)) told)
+
+  -- a stamp that did not expire is still live
+  flushed-stamps : (p : Part) → PartOk g p → (j n : ℕ) → find j (strike (expires g p) (p .list)) ≡ some n → Live g (suc (p .flushes)) n
+  flushed-stamps p ok j n e = go (find j (p .list)) refl (sym (find-strike (expires g p) j (p .list) (ok .once)) ∙ e)
+    where
+      go : (o : Option ℕ) → find j (p .list) ≡ o → unless (expires g p) o ≡ some n → Live g (suc (p .flushes)) n
+      go none was now = let z : _≡_ {A = ℕ} 0 1 = cc in absurd (omega arith)
+      go (some m) was now = either (expires g p m)
+          (λ h. let z : none ≡ some n = simp h at now in let z : _≡_ {A = ℕ} 0 1 = cc in absurd (omega arith))
+          (λ h.
+          let same : some m ≡ some n = simp h at now in
+          let e : m ≡ n = cc in
+          let old = ok .stamps j m was in
+          rw (← e) (record { first = old .first; flushed = omega (arith, old .flushed); kept = omega (numbers, old .kept) }))
+
+  pub flushed-ok : (p : Part) → PartOk g p → PartOk g (flushed g p)
+  unfolding flushed
+  flushed-ok p ok = record {
+    once = distinct-strike _ (p .list) (ok .once);
+    listFits = omega (arith, length-strike (expires g p) (p .list), ok .listFits);
+    stamps = flushed-stamps p ok;
+    apart = λ q. tt;
+    fits = λ q. omega arith;
+  }
+
+pub core-flush : (h : History) (t : ℕ) (ps : ℕ → Part) → Core ps h → Core (modify t (flushed (h .geometry)) ps) (aged t h)
+unfolding modify flushed
+core-flush h t ps c =
+    let g = h .geometry in
+    record {
+      parts = λ u. elim (eqb u t) as (λ b. PartOk g (cond b (flushed g (ps u)) (ps u))) [
+        | true ↦ flushed-ok g (ps u) (c .parts u)
+        | false ↦ c .parts u
+      ];
+      keys = λ k. cond-both (λ p w. KeyOk g p k w) (eqb (partitionOf g k) t)
+          (flushed-key g _ k _ (c .parts (partitionOf g k)) (c .keys k)) (c .keys k);
+      lives = λ u. elim (eqb u t) as (λ b. cond b (min (g .kept) (h .live u + 1)) (h .live u) ≡ live g (cond b (flushed g (ps u)) (ps u))) [
+        | true ↦ omega (arith, c .lives u)
+        | false ↦ c .lives u
+      ];
+    }
+
+-- `p′` is `p` changed for the one key `k`, of which the history then knows `w`
+pub record Touch (g : Geometry) (k : ℕ) (w : Option Known) (p p′ : Part) : Type 0 where
+  pub ok : PartOk g p′
+  pub own : KeyOk g p′ k w
+  pub other : (j : ℕ) → (j ≡ k → ⊥) → (v : Option Known) → KeyOk g p j v → KeyOk g p′ j v
+  pub same : p′ .flushes ≡ p .flushes
+
+module _ (h : History) (k : ℕ) (w : Option Known) (c : Part → Part) (ps : ℕ → Part) where
+  pub core-touch : Core ps h → Touch (h .geometry) k w (ps (partitionOf (h .geometry) k)) (c (ps (partitionOf (h .geometry) k)))
+      → Core (modify (partitionOf (h .geometry) k) c ps) (withKey k w h)
+  unfolding modify
+  core-touch core touch =
+      let g = h .geometry in
+      record {
+        parts = λ u. either (eqb u (partitionOf g k))
+            (λ e. simp e (rw (eqb-true u _ e) (touch .ok)))
+            (λ e. simp e (core .parts u));
+        keys = λ j. either (eqb j k)
+            (λ e. rw (eqb-true j k e) (simp (eq-eqb k k refl, eq-eqb (partitionOf g k) (partitionOf g k) refl) (touch .own)))
+            (λ e. simp e (either (eqb (partitionOf g j) (partitionOf g k))
+            (λ e′.
+            let same : partitionOf g j ≡ partitionOf g k = eqb-true (partitionOf g j) (partitionOf g k) e′ in
+            simp e′ (rw same (touch .other j (eqb-false j k e) _ (rw same at (core .keys j)))))
+            (λ e′. simp e′ (core .keys j))));
+        lives = λ u. either (eqb u (partitionOf g k))
+            (λ e. simp e (rw (eqb-true u _ e) (core .lives (partitionOf g k) ∙ ap (min (g .kept)) (sym (touch .same)))))
+            (λ e. simp e (core .lives u));
+      }

@@ -1,0 +1,115 @@
+-- A del keeps areas and history in step, and so does a put, with a flush before it and without one.
+use Prim.Native.Nat.{ℕ, _^_, _<_}
+use mathlib.Core.Bool.{Bool, true, false, cond, _&&_}
+use mathlib.Core.Path.{_≡_, refl, sym, _∙_}
+use mathlib.Core.List.{List}
+use mathlib.Core.Option.{none}
+use native.Mathlib.Omega.{arith}
+use lib.Dec.{eqb}
+use lib.ListN.{length}
+use borrow.Author.Tests.{ne-eqb}
+use Rattle.model.specs.declared.Geometry.{Geometry}
+use Rattle.model.specs.Geometry.{partitions}
+use Rattle.model.specs.Keys.{partitionOf}
+use Rattle.model.specs.Partition.{partition}
+use Rattle.model.specs.Answers.{Areas, done}
+use Rattle.model.specs.Refusals.{lastFlush}
+use Rattle.model.specs.Put.{due, putIn}
+use Rattle.model.specs.Del.{deleted}
+use Rattle.model.specs.Calls.{del, put, checks, result, effect, changed}
+use Rattle.model.proofs.Sizes.{partition-of-lt}
+use Rattle.model.proofs.Partitions.{modify}
+use Rattle.model.proofs.PartitionsCalls.{put-kept, put-flushed}
+use Rattle.history.specs.History.{History, withKey, heard, note}
+use Rattle.history.proofs.Basics.{numbers}
+use Rattle.history.proofs.Modify.{modify-twice}
+use Rattle.history.proofs.Table.{Part, mustList, due as dueIn, flushed as flushedPart, stored as storedPart, deleted as deletedPart}
+use Rattle.history.proofs.Core.{flushed-ok}
+use Rattle.history.proofs.Good.{good-del, good-put, room-free, room-flushed}
+use Rattle.history.proofs.Shows.{ShowsPart}
+use Rattle.history.proofs.Storing.{shows-put, shows-deleted}
+use Rattle.history.proofs.Areas.{Shows, shows-changed}
+use Rattle.history.proofs.Checking.{put-checks, del-checks, due-shown}
+use Rattle.history.proofs.InStep.{InStep, refuse-none, batchWritten, flushed-shown, changed-shown}
+
+module _ (a : Areas) (h : History) (inv : InStep a h) (k : ℕ) (hk : k < 2 ^ 64) where
+  abbrev g : Geometry
+  g = h .geometry
+
+  abbrev t : ℕ
+  t = partitionOf g k
+
+  abbrev s : Part
+  s = inv .table t
+
+  below : t < partitions g
+  below = partition-of-lt g (inv .shows .ok) k hk
+
+  at : ShowsPart g t (partition g t (a .memory)) (a .flash) s
+  at = inv .shows .part t below
+
+  -- the key's partition changed, and flash as it was
+  kept-shown : (c : List ℕ → List ℕ) (c′ : Part → Part) → ShowsPart g t (c (partition g t (a .memory))) (a .flash) (c′ s)
+      → Shows (changed a t c (a .flash)) g (modify t c′ (inv .table))
+  kept-shown c c′ now = shows-changed a g (inv .table) (inv .shows) t below c c′ (a .flash) refl (λ u j q other lu lj lq. refl) now
+
+  free-place : checks a (del k) ≡ none → mustList g k s ≡ true → length (s .list) < g .list
+  free-place e must =
+      let free = refuse-none (mustList g k s && eqb (length (s .list)) (g .list)) 14 none (sym (del-checks a g (inv .table) (inv .shows) (inv .good .core .parts) k hk) ∙ e) .0 in
+      let less : eqb (length (s .list)) (g .list) ≡ false = simp must at free in
+      omega (numbers, inv .good .core .parts t .listFits)
+
+  pub del-keeps : checks a (del k) ≡ none → InStep (effect a (del k)) (withKey k none h)
+  unfolding effect
+  del-keeps e = record {
+    table = modify t (deletedPart g k) (inv .table);
+    shows = rw (inv .shows .geometry) (rw (inv .shows .geometry) at
+        (kept-shown (deleted g k) (deletedPart g k) (shows-deleted g (inv .shows .ok) t _ _ s at (inv .good .core .parts t .listFits) k hk (free-place e))));
+    good = good-del (inv .table) h (inv .good) k below (free-place e);
+  }
+
+  module _ (v : ℕ) (hv : v < 2 ^ 64) where
+    is-due : due g k (partition g t (a .memory)) ≡ dueIn g k s
+    is-due = due-shown g (inv .shows .ok) t _ _ s at k
+
+    put-effect : (b : Bool) → dueIn g k s ≡ b → effect a (put k v) ≡ changed a t (putIn g k v) (cond b (batchWritten a g t) (a .flash))
+    unfolding effect
+    put-effect b e = rw (inv .shows .geometry, is-due, e)
+
+    put-result : (b : Bool) → dueIn g k s ≡ b → result a (put k v) ≡ done (cond b (g .pages) 0)
+    unfolding result
+    put-result b e = rw (inv .shows .geometry, is-due, e)
+
+    put-free : dueIn g k s ≡ false → ShowsPart g t (putIn g k v (partition g t (a .memory))) (a .flash) (storedPart g k v s)
+    put-free e =
+        rw (put-kept g k _ v (is-due ∙ e))
+        (shows-put g (inv .shows .ok) t _ _ s at (inv .good .core .parts t .listFits) k hk v hv (room-free g k s v (inv .good .core .parts t) e))
+
+    put-due : dueIn g k s ≡ true → eqb (s .flushes) lastFlush ≡ false
+        → ShowsPart g t (putIn g k v (partition g t (a .memory))) (batchWritten a g t) (storedPart g k v (flushedPart g s))
+    put-due e more =
+        rw (put-flushed g k _ v (is-due ∙ e))
+        (shows-put g (inv .shows .ok) t _ _ (flushedPart g s) (flushed-shown a h inv t below more) (flushed-ok g s (inv .good .core .parts t) .listFits) k hk v hv
+        (room-flushed g k s v (inv .good .fine .someEntry)))
+
+    number-left : checks a (put k v) ≡ none → dueIn g k s ≡ true → eqb (s .flushes) lastFlush ≡ false
+    number-left e d =
+        let free = refuse-none (dueIn g k s && eqb (s .flushes) lastFlush) 16 none (sym (put-checks a g (inv .table) (inv .shows) (inv .good .core .parts) k hk v) ∙ e) .0 in
+        simp d at free
+
+    pub put-keeps : checks a (put k v) ≡ none → InStep (effect a (put k v)) (note h (heard (put k v) (result a (put k v))))
+    unfolding note
+    put-keeps e = go (dueIn g k s) refl
+      where
+        go : (b : Bool) → dueIn g k s ≡ b → InStep (effect a (put k v)) (note h (heard (put k v) (result a (put k v))))
+        go false d = rw (put-effect false d, put-result false d) (record {
+          table = modify t (storedPart g k v) (inv .table);
+          shows = kept-shown (putIn g k v) (storedPart g k v) (put-free d);
+          good = good-put (inv .table) h (inv .good) k v below false d;
+        })
+        go true d = rw (put-effect true d, put-result true d, ne-eqb (g .pages) 0 (omega (arith, inv .good .fine .somePage))) (record {
+          table = modify t (storedPart g k v) (modify t (flushedPart g) (inv .table));
+          shows = rw (modify-twice t (storedPart g k v) (flushedPart g) (inv .table))
+              (changed-shown a h inv t below (number-left e d) (putIn g k v) (λ x. storedPart g k v (flushedPart g x)) (put-due d (number-left e d)));
+          good = good-put (inv .table) h (inv .good) k v below true d;
+        })

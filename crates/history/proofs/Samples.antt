@@ -1,0 +1,50 @@
+-- The history of a few lists of calls, computed.
+use Prim.Native.Nat.{ℕ, _^_}
+use mathlib.Core.Path.{_≡_, refl}
+use mathlib.Core.List.{List, [], _∷_}
+use mathlib.Core.Option.{Option, none, some}
+use Rattle.model.specs.declared.Geometry.{Geometry}
+use Rattle.model.specs.Bytes.{zeros}
+use Rattle.model.specs.Answers.{Areas}
+use Rattle.model.specs.Calls.{Call, format, put, del, flush}
+use Rattle.model.proofs.Computing.{computing}
+use Rattle.history.specs.History.{Known, History, blank, older, note, remember, events}
+
+-- two batches of one page of three entries, for one partition and for two: key 2 ^ 63 is in the second
+abbrev with : ℕ → Geometry
+with s = record { parts = s; page = 64; pages = 1; kept = 2; bits = 64; hashes = 3; list = 1 }
+
+abbrev start : Areas
+start = record { memory = zeros 256; flash = zeros 256 }
+
+abbrev history : ℕ → List Call → History
+history s cs = remember (blank (with s)) (events start (format (with s) ∷ cs))
+
+abbrev known : ℕ → ℕ → Option Known
+known v age = some (record { value = v; age = age })
+
+-- key 1, then two batches, and a third
+abbrev twoFlushes : List Call
+twoFlushes = put 1 10 ∷ put 60 1 ∷ flush 0 ∷ put 61 2 ∷ flush 0 ∷ []
+
+abbrev threeFlushes : List Call
+threeFlushes = put 1 10 ∷ put 60 1 ∷ flush 0 ∷ put 61 2 ∷ flush 0 ∷ put 62 3 ∷ flush 0 ∷ []
+
+-- the fourth does not fit the page, and flushes
+abbrev fourPuts : List Call
+fourPuts = put 1 10 ∷ put 2 20 ∷ put 3 30 ∷ put 4 40 ∷ []
+
+-- A key ages with each flush of its partition, also with that of a put, and is forgotten after K of them; a del forgets it at once.
+-- The live number stops at K. Another partition's flush changes nothing of a key.
+pub samples :
+    (history 0 (put 1 10 ∷ []) .keys 1 ≡ known 10 0)
+    × (history 0 twoFlushes .keys 1 ≡ known 10 2)
+    × (history 0 threeFlushes .keys 1 ≡ none)
+    × (history 0 threeFlushes .live 0 ≡ 2)
+    × (history 0 (put 1 10 ∷ del 1 ∷ []) .keys 1 ≡ none)
+    × (history 0 fourPuts .keys 1 ≡ known 10 1)
+    × (history 0 fourPuts .keys 4 ≡ known 40 0)
+    × (history 0 fourPuts .putPages ≡ 1)
+    × (history 1 (put (2 ^ 63) 5 ∷ put 1 10 ∷ flush 0 ∷ []) .keys (2 ^ 63) ≡ known 5 0)
+unfolding computing older note remember events
+samples = (refl, refl, refl, refl, refl, refl, refl, refl, refl)

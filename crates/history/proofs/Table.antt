@@ -1,0 +1,87 @@
+-- A table without bytes: what each partition holds, and what a flush, a put and a del make of it.
+use Prim.Native.Nat.{ℕ, zero, suc, _+_, _-_, _≤_, _<_, min}
+use mathlib.Core.Bool.{Bool, true, false, cond, not, _&&_}
+use mathlib.Core.List.{List, [], _∷_, _++_}
+use lib.Dec.{eqb}
+use lib.ListN.{length}
+use Rattle.model.specs.declared.Geometry.{Geometry}
+use Rattle.model.specs.Search.{isSome}
+use Rattle.model.specs.Geometry.{capacity}
+use Rattle.model.specs.Keys.{pageOf}
+use Rattle.model.proofs.Tables.{Entry, find, store, erase, strike, passesAll}
+use Rattle.model.proofs.Partitions.{modify}
+
+-- The list holds keys with stamps. Batches go by number, and each keeps its pages.
+pub record Part : Type 0 where
+  pub flushes : ℕ
+  pub list : List Entry
+  pub buffer : ℕ → List Entry
+  pub batch : ℕ → ℕ → List Entry
+
+abbrev pub live : Geometry → Part → ℕ
+live g p = min (g .kept) (p .flushes)
+
+-- batch n is live after F flushes
+pub record Live (g : Geometry) (F n : ℕ) : Type 0 where
+  pub first : 1 ≤ n
+  pub flushed : n ≤ F
+  pub kept : F < n + g .kept
+
+abbrev pub nothing : ℕ → List Entry
+nothing q = []
+
+abbrev pub empty : Part
+empty = record { flushes = 0; list = []; buffer = nothing; batch = λ n. nothing }
+
+-- of `count` batches, from batch n down, those that pass the key
+unfoldable pub passingFrom : Geometry → ℕ → Part → ℕ → ℕ → List ℕ
+passingFrom g k p zero n = []
+passingFrom g k p (suc count) n =
+    cond (passesAll g (p .batch n) k) (n ∷ passingFrom g k p count (n - 1)) (passingFrom g k p count (n - 1))
+
+abbrev pub passing : Geometry → ℕ → Part → List ℕ
+passing g k p = passingFrom g k p (live g p) (p .flushes)
+
+abbrev pub isEmpty : {A : Type 0} → List A → Bool
+isEmpty [] = true
+isEmpty (x ∷ l) = false
+
+-- a put of a key that is not in its buffer page, and that page is full
+unfoldable pub due : Geometry → ℕ → Part → Bool
+due g k p = not (isSome (find k (p .buffer (pageOf g k)))) && eqb (length (p .buffer (pageOf g k))) (capacity g)
+
+-- a del that needs a place in the list
+unfoldable pub mustList : Geometry → ℕ → Part → Bool
+mustList g k p = not (isSome (find k (p .list))) && not (isEmpty (passing g k p))
+
+abbrev pub expires : Geometry → Part → ℕ → Bool
+expires g p stamp = eqb (stamp + g .kept) (p .flushes + 1)
+
+unfoldable pub flushed : Geometry → Part → Part
+flushed g p = record {
+  flushes = suc (p .flushes);
+  list = strike (expires g p) (p .list);
+  buffer = nothing;
+  batch = modify (suc (p .flushes)) (λ old. p .buffer) (p .batch);
+}
+
+unfoldable pub stored : Geometry → ℕ → ℕ → Part → Part
+stored g k v p = record {
+  flushes = p .flushes;
+  list = erase k (p .list);
+  buffer = modify (pageOf g k) (store k v) (p .buffer);
+  batch = p .batch;
+}
+
+-- the list with k at its end, stamped with the first of these batches; unchanged when there is none
+unfoldable pub enlist : ℕ → List ℕ → List Entry → List Entry
+enlist k [] l = l
+enlist k (n ∷ ns) l = l ++ (record { key = k; val = n } ∷ [])
+
+unfoldable pub deleted : Geometry → ℕ → Part → Part
+deleted g k p = record {
+  flushes = p .flushes;
+  list = cond (isSome (find k (p .list))) (p .list) (enlist k (passing g k p) (p .list));
+  buffer = cond (isSome (find k (p .list))) (p .buffer) (modify (pageOf g k) (erase k) (p .buffer));
+  batch = p .batch;
+}
