@@ -1,0 +1,167 @@
+// A table's numbers: which are allowed, what they need, where everything begins; and a key's partition, page and mixed form.
+ghost use mathlib.Core.Bool.{true};
+ghost use mathlib.Core.Path.{_≡_};
+ghost use Prim.Native.Nat.{_≤_, _<_};
+ghost use Rattle.model.specs.Geometry.{isPower, allowed, partitions, capacity, filterSize, filterAt, bufferAt, stride, partitionAt, memoryNeed, slotPageAt, flashNeed};
+ghost use Rattle.model.specs.Keys.{partitionOf, pageOf, mixed};
+use model::Geometry;
+
+// Is n a power of two from 2^low to 2^high?
+fn is_power(n: u32, low: u32, high: u32) -> bool
+    requires { ⌜ low ≤ high ⌝ }
+    requires { ⌜ high < 32 ⌝ }
+    ensures { λ r. ⌜ r ≡ isPower low high n ⌝ }
+{
+    if n == 0 {
+        return false;
+    }
+    if n & (n - 1) != 0 {
+        return false;
+    }
+    if n < 1u32 << low {
+        return false;
+    }
+    n <= 1u32 << high
+}
+
+pub fn is_allowed(g: Geometry) -> bool
+    ensures { λ r. ⌜ r ≡ allowed g ⌝ }
+{
+    if 8 < g.parts {
+        return false;
+    }
+    if g.kept < 1 {
+        return false;
+    }
+    if 32 < g.kept {
+        return false;
+    }
+    if g.hashes < 1 {
+        return false;
+    }
+    if 8 < g.hashes {
+        return false;
+    }
+    if g.list < 1 {
+        return false;
+    }
+    if 1024 < g.list {
+        return false;
+    }
+    if !is_power(g.page, 6, 12) {
+        return false;
+    }
+    if !is_power(g.pages, 0, 6) {
+        return false;
+    }
+    is_power(g.bits, 6, 16)
+}
+
+pub fn partition_count(g: Geometry) -> u32
+    requires { ⌜ allowed g ≡ true ⌝ }
+    ensures { λ r. ⌜ r ≡ partitions g ⌝ }
+{
+    1u32 << g.parts
+}
+
+// Entries that fit a page.
+pub fn page_capacity(g: Geometry) -> usize
+    requires { ⌜ allowed g ≡ true ⌝ }
+    ensures { λ r. ⌜ r ≡ capacity g ⌝ }
+{
+    (g.page / 16 - 1) as usize
+}
+
+pub fn filter_size(g: Geometry) -> usize
+    ensures { λ r. ⌜ r ≡ filterSize g ⌝ }
+{
+    (g.bits / 8) as usize
+}
+
+// Where slot j's filter begins in a partition.
+pub fn filter_at(g: Geometry, j: u32) -> usize
+    requires { ⌜ allowed g ≡ true ⌝ }
+    requires { ⌜ j ≤ g .kept ⌝ }
+    ensures { λ r. ⌜ r ≡ filterAt g j ⌝ }
+{
+    16 + 16 * g.list as usize + j as usize * filter_size(g)
+}
+
+// Where buffer page q begins in a partition.
+pub fn buffer_at(g: Geometry, q: u32) -> usize
+    requires { ⌜ allowed g ≡ true ⌝ }
+    requires { ⌜ q ≤ g .pages ⌝ }
+    ensures { λ r. ⌜ r ≡ bufferAt g q ⌝ }
+{
+    filter_at(g, g.kept) + q as usize * g.page as usize
+}
+
+// A partition's bytes.
+pub fn partition_size(g: Geometry) -> usize
+    requires { ⌜ allowed g ≡ true ⌝ }
+    ensures { λ r. ⌜ r ≡ stride g ⌝ }
+{
+    buffer_at(g, g.pages)
+}
+
+// Where partition t begins in memory.
+pub fn partition_at(g: Geometry, t: u32) -> usize
+    requires { ⌜ allowed g ≡ true ⌝ }
+    requires { ⌜ t ≤ partitions g ⌝ }
+    ensures { λ r. ⌜ r ≡ partitionAt g t ⌝ }
+{
+    32 + t as usize * partition_size(g)
+}
+
+pub fn memory_need(g: Geometry) -> usize
+    requires { ⌜ allowed g ≡ true ⌝ }
+    ensures { λ r. ⌜ r ≡ memoryNeed g ⌝ }
+{
+    partition_at(g, partition_count(g))
+}
+
+// Where page q of slot j of partition t begins in flash.
+pub fn slot_page_at(g: Geometry, t: u32, j: u32, q: u32) -> usize
+    requires { ⌜ allowed g ≡ true ⌝ }
+    requires { ⌜ t < partitions g ⌝ }
+    requires { ⌜ j < g .kept ⌝ }
+    requires { ⌜ q < g .pages ⌝ }
+    ensures { λ r. ⌜ r ≡ slotPageAt g t j q ⌝ }
+{
+    let slot = t as usize * g.kept as usize + j as usize;
+    let block = slot * g.pages as usize + q as usize;
+    block * g.page as usize
+}
+
+pub fn flash_need(g: Geometry) -> usize
+    requires { ⌜ allowed g ≡ true ⌝ }
+    ensures { λ r. ⌜ r ≡ flashNeed g ⌝ }
+{
+    let slots = partition_count(g) as usize * g.kept as usize;
+    slots * g.pages as usize * g.page as usize
+}
+
+// The key's top bits. Two shifts, since with one partition the one shift would be by 64.
+pub fn partition_of(g: Geometry, key: u64) -> u32
+    requires { ⌜ allowed g ≡ true ⌝ }
+    ensures { λ r. ⌜ r ≡ partitionOf g key ⌝ }
+{
+    ((key >> 1) >> (63 - g.parts)) as u32
+}
+
+// The key's low 16 bits, modulo a power of two.
+pub fn page_of(g: Geometry, key: u64) -> u32
+    requires { ⌜ allowed g ≡ true ⌝ }
+    ensures { λ r. ⌜ r ≡ pageOf g key ⌝ }
+{
+    (key % 65536) as u32 & (g.pages - 1)
+}
+
+// Marsaglia's xorshift.
+pub fn mix(key: u64) -> u64
+    ensures { λ r. ⌜ r ≡ mixed key ⌝ }
+{
+    let a = key ^ (key << 13);
+    let b = a ^ (a >> 7);
+    b ^ (b << 17)
+}
