@@ -1,0 +1,17 @@
+-- What a put does, from its checks and from whether a flush is due.
+use Prim.Native.Nat.{ℕ}
+use mathlib.Core.Bool.{Bool, true, false}
+use mathlib.Core.List.{List}
+use mathlib.Core.Option.{Option, none, some}
+use Rattle.model.specs.declared.Geometry.{Geometry}
+use Rattle.model.specs.Put.{due, putChecks}
+use Rattle.put.specs.declared.Plan.{Plan}
+use Rattle.put.specs.declared.Plan.the-variants.{Refused, Store, Flush}
+
+abbrev pub planWith : Option ℕ → Bool → Plan
+planWith (some n) flushes = Refused n
+planWith none false = Store
+planWith none true = Flush
+
+unfoldable pub planFor : Geometry → ℕ → List ℕ → Plan
+planFor g k p = planWith (putChecks g k p) (due g k p)
