@@ -1,0 +1,41 @@
+-- Every refusal before flash is read is the checks' own, and what is shown lies where the definition says.
+use Prim.Native.Nat.{_≤_, _<_}
+use mathlib.Core.Path.{_≡_, refl, sym, _∙_, ap}
+use native.Mathlib.Omega.{arith}
+use borrow.Author.Needs.{needs}
+use Rattle.model.specs.Geometry.{partitions}
+use Rattle.model.specs.Calls.{Call, effect}
+use Rattle.answers.proofs.Performing.{refusing, looking}
+use Rattle.opening.proofs.Tables.{checks-view, result-view}
+use Rattle.partition.specs.Ready.{refusal}
+use Rattle.view.proofs.Showing.{no-partition, no-page, shown-inside}
+use Rattle.view.proofs.call.Statement.{statement}
+use Rattle.view.proofs.call.Tie as tie
+
+returns : tie.Need-returns
+returns c =
+    let s = c .before .before .before .before in
+    let h : partitions (s .args .g) ≤ s .args .t = omega arith in
+    (refusing _ _ _ 4 (checks-view _ _ _ (s .pre) _ _ _ ∙ no-partition _ _ _ _ _ h), tt)
+
+returns-2 : tie.Need-returns-2
+returns-2 c =
+    let s = c .before .before .before .before .before .before in
+    let l : s .args .t < partitions (s .args .g) = omega arith in
+    (refusing _ _ _ 4 (checks-view _ _ _ (s .pre) _ _ _ ∙ no-page _ _ _ _ _ l (omega arith)), tt)
+
+returns-3 : tie.Need-returns-3
+returns-3 c = (refusing _ _ _ _ (checks-view _ _ _ (c .before .before .before .before .before .before .before .before .before .before .pre) _ _ _ ∙ sym (c .before .before .before .decide-at .ensures) ∙ ap refusal (c .before .number .given .1)), tt)
+
+returns-4 : tie.Need-returns-4
+unfolding effect
+returns-4 c =
+    let s = c .before .before .before .before .before .before .before .before .before .before in
+    let w = s .pre in
+    let l : s .args .t < partitions (s .args .g) = omega arith in (
+      looking _ _ _ _ (checks-view _ _ _ w _ _ _ ∙ sym (c .before .before .before .decide-at .ensures) ∙ ap refusal (c .before .enum-told .given .1)) (result-view _ _ _ w _ _ _ ∙ sym (c .place .ensures)) refl,
+      shown-inside _ _ _ _ (s .args .memory .now) _ (w .fine) (w .memoryFits) (w .flashFits) l (omega arith) (c .place .result) (c .place .ensures),
+    )
+
+pub call-spec : {M : Type 1} → statement M
+call-spec = tie.close (tie.spec (λ c κs. search needs) returns returns-2 (λ c κs. search needs) (λ c. search needs) (λ c. search needs) (λ c κs. search needs) returns-3 returns-4)
