@@ -1,0 +1,228 @@
+//! Document 01 written out a second time, without any care for speed: a call
+//! takes a partition apart into plain lists, changes these, and puts
+//! everything together again.
+
+use reference::Geometry;
+
+use super::call::{Answer, Call};
+use super::plain::*;
+
+fn lengths(g: Geometry, memory: &[u8], flash: &[u8]) -> Result<(), Answer> {
+    let partitions = 1usize << g.parts;
+    check(memory.len() >= 32 + partitions * length(g), 2)?;
+    check(
+        flash.len() >= partitions * (g.kept * g.pages * g.page) as usize,
+        3,
+    )
+}
+
+fn check(holds: bool, number: u32) -> Result<(), Answer> {
+    if holds {
+        Ok(())
+    } else {
+        Err(Answer::Refused(number, 0))
+    }
+}
+
+/// What the call answers and what it leaves, by document 01.
+pub fn call_oracle(call: Call, memory: &mut [u8], flash: &mut [u8]) -> Answer {
+    let answer = match call {
+        Call::Format(g) => format(g, memory, flash),
+        _ => open(memory, flash).and_then(|g| match call {
+            Call::Put(key, value) => put(g, memory, flash, key, value),
+            Call::Get(key) => get(g, memory, flash, key),
+            Call::Del(key) => del(g, memory, key),
+            Call::Flush(t) => flush(g, memory, flash, t),
+            Call::View(t, q, n) => view(g, memory, flash, t, q, n),
+            Call::Format(_) => unreachable!(),
+        }),
+    };
+    answer.unwrap_or_else(|refused| refused)
+}
+
+fn format(g: Geometry, memory: &mut [u8], flash: &[u8]) -> Result<Answer, Answer> {
+    check(allowed(g), 1)?;
+    lengths(g, memory, flash)?;
+    let mut bytes = Vec::new();
+    for number in [
+        g.parts, g.page, g.pages, g.kept, g.bits, g.hashes, g.list, 0,
+    ] {
+        push(&mut bytes, number.into(), 4);
+    }
+    memory[..32].copy_from_slice(&bytes);
+    for t in 0..1usize << g.parts {
+        let partition = Partition {
+            flushes: 0,
+            listed: 0,
+            last: 0,
+            list: vec![(0, 0); g.list as usize],
+            filters: vec![vec![false; g.bits as usize]; g.kept as usize],
+            buffer: (0..g.pages)
+                .map(|q| empty_page(g, t as u64, q.into()))
+                .collect(),
+        };
+        write_partition(g, memory, t, &partition);
+    }
+    Ok(Answer::Done(0))
+}
+
+fn open(memory: &[u8], flash: &[u8]) -> Result<Geometry, Answer> {
+    check(memory.len() >= 32, 2)?;
+    let n: Vec<u32> = memory[..32].chunks(4).map(|w| number(w) as u32).collect();
+    let g = super::geometry([n[0], n[1], n[2], n[3], n[4], n[5], n[6]]);
+    check(allowed(g) && n[7] == 0, 11)?;
+    lengths(g, memory, flash)?;
+    Ok(g)
+}
+
+/// The flush that has passed every check but 16.
+fn write_batch(
+    g: Geometry,
+    partition: &mut Partition,
+    flash: &mut [u8],
+    t: usize,
+) -> Result<(), Answer> {
+    check(partition.flushes < 4294967295, 16)?;
+    let number = partition.flushes + 1;
+    let slot = ((number - 1) % i128::from(g.kept)) as usize;
+    partition.filters[slot] = vec![false; g.bits as usize];
+    for q in 0..g.pages as usize {
+        let mut page = partition.buffer[q].clone();
+        for i in 0..page.count as usize {
+            for b in bits(g, page.entries[i].0) {
+                partition.filters[slot][b] = true;
+            }
+        }
+        page.flush = number as u64;
+        flash[flash_at(g, t, slot, q)..][..g.page as usize].copy_from_slice(&page_bytes(&page));
+        partition.buffer[q] = empty_page(g, t as u64, q as u64);
+    }
+    let gone = number - i128::from(g.kept);
+    let stamped = |i: &usize| i128::from(partition.list[*i].1 as u32) == gone;
+    let places: Vec<usize> = (0..partition.listed as usize).filter(stamped).collect();
+    partition.listed = take_out(&mut partition.list, partition.listed, &places);
+    partition.flushes = number;
+    Ok(())
+}
+
+fn put(
+    g: Geometry,
+    memory: &mut [u8],
+    flash: &mut [u8],
+    key: u64,
+    value: u64,
+) -> Result<Answer, Answer> {
+    let (t, q) = home(g, key);
+    let mut partition = read_partition(g, memory, t);
+    check(
+        partition.listed <= g.list.into() && fits(g, &partition.buffer[q]),
+        12,
+    )?;
+    let mut written = 0;
+    if let Some(i) = find(&partition.buffer[q].entries, partition.buffer[q].count, key) {
+        partition.buffer[q].entries[i].1 = value;
+    } else {
+        if partition.buffer[q].count == u64::from(g.page) / 16 - 1 {
+            check(partition.buffer.iter().all(|page| fits(g, page)), 12)?;
+            write_batch(g, &mut partition, flash, t)?;
+            written = g.pages;
+        }
+        let page = &mut partition.buffer[q];
+        page.entries[page.count as usize] = (key, value);
+        page.count += 1;
+    }
+    if let Some(i) = find(&partition.list, partition.listed, key) {
+        partition.listed = take_out(&mut partition.list, partition.listed, &[i]);
+    }
+    write_partition(g, memory, t, &partition);
+    Ok(Answer::Done(written))
+}
+
+fn get(g: Geometry, memory: &[u8], flash: &[u8], key: u64) -> Result<Answer, Answer> {
+    let (t, q) = home(g, key);
+    let partition = read_partition(g, memory, t);
+    let page = &partition.buffer[q];
+    check(partition.listed <= g.list.into() && fits(g, page), 12)?;
+    if find(&partition.list, partition.listed, key).is_some() {
+        return Ok(Answer::None(0));
+    }
+    if let Some(i) = find(&page.entries, page.count, key) {
+        return Ok(Answer::Found(page.entries[i].1, 0, 0));
+    }
+    let mut reads = 0;
+    for (number, slot) in passing(g, &partition, key) {
+        reads += 1;
+        let page = read_page(&flash[flash_at(g, t, slot, q)..][..g.page as usize]);
+        if !expected(g, &page, t, q, number) {
+            return Err(Answer::Refused(13, reads));
+        }
+        if let Some(i) = find(&page.entries, page.count, key) {
+            return Ok(Answer::Found(page.entries[i].1, reads, number as u32));
+        }
+    }
+    Ok(Answer::None(reads))
+}
+
+fn del(g: Geometry, memory: &mut [u8], key: u64) -> Result<Answer, Answer> {
+    let (t, q) = home(g, key);
+    let mut partition = read_partition(g, memory, t);
+    check(
+        partition.listed <= g.list.into() && fits(g, &partition.buffer[q]),
+        12,
+    )?;
+    if find(&partition.list, partition.listed, key).is_some() {
+        return Ok(Answer::Done(0));
+    }
+    let youngest = passing(g, &partition, key).first().copied();
+    check(youngest.is_none() || partition.listed < g.list.into(), 14)?;
+    let page = &mut partition.buffer[q];
+    if let Some(i) = find(&page.entries, page.count, key) {
+        page.count = take_out(&mut page.entries, page.count, &[i]);
+    }
+    if let Some((number, _)) = youngest {
+        partition.list[partition.listed as usize] = (key, number as u64);
+        partition.listed += 1;
+    }
+    write_partition(g, memory, t, &partition);
+    Ok(Answer::Done(0))
+}
+
+fn flush(g: Geometry, memory: &mut [u8], flash: &mut [u8], t: u32) -> Result<Answer, Answer> {
+    check(t < 1 << g.parts, 4)?;
+    let mut partition = read_partition(g, memory, t as usize);
+    let fit = partition.buffer.iter().all(|page| fits(g, page));
+    check(partition.listed <= g.list.into() && fit, 12)?;
+    check(partition.buffer.iter().any(|page| page.count > 0), 15)?;
+    write_batch(g, &mut partition, flash, t as usize)?;
+    write_partition(g, memory, t as usize, &partition);
+    Ok(Answer::Done(g.pages))
+}
+
+fn view(
+    g: Geometry,
+    memory: &[u8],
+    flash: &[u8],
+    t: u32,
+    q: u32,
+    n: u32,
+) -> Result<Answer, Answer> {
+    check(t < 1 << g.parts && q < g.pages, 4)?;
+    let (t, q, size) = (t as usize, q as usize, g.page as usize);
+    let partition = read_partition(g, memory, t);
+    check(partition.listed <= g.list.into(), 12)?;
+    if n == 0 {
+        check(fits(g, &partition.buffer[q]), 12)?;
+        let at = 32 + (t + 1) * length(g) - (g.pages as usize - q) * size;
+        return Ok(Answer::InMemory(at, size));
+    }
+    let n = i128::from(n);
+    let f = partition.flushes;
+    check(n <= f && n > f - f.min(g.kept.into()), 17)?;
+    let slot = ((n - 1) % i128::from(g.kept)) as usize;
+    let at = flash_at(g, t, slot, q);
+    if expected(g, &read_page(&flash[at..at + size]), t, q, n) {
+        Ok(Answer::InFlash(at, size))
+    } else {
+        Err(Answer::Refused(13, 1))
+    }
+}

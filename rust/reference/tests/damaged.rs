@@ -1,0 +1,254 @@
+//! Areas of any content: the index against document 01 written out plainly,
+//! answer by answer and byte by byte.
+
+mod common;
+
+use common::call::{call_index, Answer, Call};
+use common::oracle::call_oracle;
+use common::{flash_need, geometry, memory_need, set_word, Rng, Table};
+use reference::Geometry;
+
+fn random_call(rng: &mut Rng, g: Geometry, keys: &[u64]) -> Call {
+    let partition = |rng: &mut Rng| match rng.below(12) {
+        0 => 1 << g.parts,
+        1 => rng.next() as u32,
+        _ => rng.below(1 << g.parts) as u32,
+    };
+    match rng.below(16) {
+        0..=5 => Call::Put(rng.pick(keys), rng.next()),
+        6..=9 => Call::Get(rng.pick(keys)),
+        10..=11 => Call::Del(rng.pick(keys)),
+        12..=13 => Call::Flush(partition(rng)),
+        _ => {
+            let beyond = usize::from(rng.one_in(8));
+            let page = rng.below(g.pages as usize + beyond);
+            let number = [0, 1, 2, 3, g.kept, u32::MAX, rng.next() as u32];
+            Call::View(partition(rng), page as u32, rng.pick(&number))
+        }
+    }
+}
+
+/// Makes the call on both sides; they agree on everything.
+fn compare(call: Call, memory: &mut [u8], flash: &mut [u8]) -> Answer {
+    let (mut plain_memory, mut plain_flash) = (memory.to_vec(), flash.to_vec());
+    let before = (plain_memory.clone(), plain_flash.clone());
+    let expected = call_oracle(call, &mut plain_memory, &mut plain_flash);
+    let answer = call_index(call, memory, flash);
+    assert_eq!(answer, expected, "{call:?}");
+    assert!(memory == plain_memory, "{call:?}: memory");
+    assert!(flash == plain_flash, "{call:?}: flash");
+    if let Answer::Refused(..) = answer {
+        assert!(memory == before.0 && flash == before.1, "{call:?}: refused");
+    }
+    answer
+}
+
+/// A number at or near the bounds of what it may be.
+fn near(rng: &mut Rng, bound: u32) -> u32 {
+    match rng.below(6) {
+        0 => bound,
+        1 => bound.wrapping_add(1),
+        2 => u32::MAX - rng.below(2) as u32,
+        3 => rng.next() as u32,
+        _ => rng.below(bound as usize + 1) as u32,
+    }
+}
+
+/// A partition after so many flushes, with live batches that are in order
+/// but hold any of the keys, or the same one twice.
+fn invent_batches(rng: &mut Rng, table: &mut Table, t: usize, keys: &[u64]) {
+    let g = table.g;
+    let flushes = near(rng, 2 * g.kept);
+    table.set_flushes(t, flushes);
+    for age in 0..flushes.min(g.kept) {
+        let number = flushes - age;
+        let slot = ((number - 1) % g.kept) as usize;
+        for q in 0..g.pages as usize {
+            let count = rng.below(g.page as usize / 16);
+            let page = table.batch(t, slot, q);
+            page.fill(0);
+            (page[0], page[2], page[4]) = (count as u8, q as u8, t as u8);
+            set_word(page, 8, number);
+            for entry in page[16..].chunks_mut(16).take(count) {
+                entry.copy_from_slice(&common::record(rng.pick(keys), rng.next()));
+            }
+        }
+        let fill = rng.pick(&[0xff, 0xff, 0xfe, 0x77]);
+        table.filter(t, slot).fill(fill);
+    }
+}
+
+fn invent_list(rng: &mut Rng, table: &mut Table, t: usize, keys: &[u64]) {
+    let g = table.g;
+    let flushes = table.flushes(t);
+    for i in 0..g.list as usize {
+        let stamp = flushes
+            .wrapping_sub(g.kept)
+            .wrapping_add(rng.below(4) as u32);
+        let stamp = rng.pick(&[stamp, stamp, 0, 1]);
+        let zero = if rng.one_in(3) { rng.next() << 32 } else { 0 };
+        let place = common::record(rng.pick(keys), zero | u64::from(stamp));
+        table.list_place(t, i).copy_from_slice(&place);
+    }
+    let listed = near(rng, g.list);
+    table.set_listed(t, listed);
+}
+
+fn invent_buffer(rng: &mut Rng, table: &mut Table, t: usize, q: usize, keys: &[u64]) {
+    let count = rng.below(table.g.page as usize / 16);
+    let entries: Vec<_> = (0..count).map(|_| (rng.pick(keys), rng.next())).collect();
+    table.fill_buffer(t, q, &entries);
+}
+
+fn damage(rng: &mut Rng, table: &mut Table, keys: &[u64]) {
+    let g = table.g;
+    let t = rng.below(1 << g.parts);
+    let q = rng.below(g.pages as usize);
+    match rng.below(12) {
+        0 => set_word(&mut table.memory, 4 * rng.below(8), rng.next() as u32 & 127),
+        1 => {
+            let number = near(rng, g.kept + 1);
+            table.set_flushes(t, number);
+        }
+        2 => {
+            let number = near(rng, g.list);
+            table.set_listed(t, number);
+        }
+        3 => {
+            let count = near(rng, g.page / 16 - 1) as u16;
+            table.buffer(t, q)[..2].copy_from_slice(&count.to_le_bytes());
+        }
+        4 => {
+            let fill = rng.next() as u8 | rng.next() as u8;
+            let slot = rng.below(g.kept as usize);
+            table.filter(t, slot).fill(fill);
+        }
+        5 => {
+            let slot = rng.below(g.kept as usize);
+            let byte = rng.below(16);
+            table.batch(t, slot, q)[byte] = rng.next() as u8 & 7;
+        }
+        6 => invent_list(rng, table, t, keys),
+        7 => invent_buffer(rng, table, t, q, keys),
+        8 => {
+            let at = 32 + rng.below(table.memory.len() - 32);
+            table.memory[at] = rng.next() as u8;
+        }
+        9 => {
+            let at = rng.below(table.flash.len());
+            table.flash[at] = rng.next() as u8;
+        }
+        _ => invent_batches(rng, table, t, keys),
+    }
+}
+
+/// A table that has been used for a while.
+fn used_table(rng: &mut Rng, g: Geometry, keys: &[u64]) -> Table {
+    let mut table = Table::new(g);
+    for _ in 0..rng.below(80) {
+        let call = random_call(rng, g, keys);
+        compare(call, &mut table.memory, &mut table.flash);
+    }
+    table
+}
+
+#[test]
+fn damaged_tables() {
+    let mut accepted = 0u64;
+    let mut refused = [0u64; 18];
+    for seed in 0..4000 {
+        println!("seed {seed}");
+        let mut rng = Rng(seed);
+        let g = rng.small_geometry();
+        let number = rng.pick(&[3, 6, 12, 40]);
+        let keys = rng.keys(number);
+        let mut table = used_table(&mut rng, g, &keys);
+        for _ in 0..6 {
+            damage(&mut rng, &mut table, &keys);
+            if rng.one_in(60) {
+                let length = rng.below(table.memory.len() + 1).max(31);
+                table.memory.truncate(length);
+            }
+            if rng.one_in(60) {
+                let length = table.flash.len() - 1;
+                table.flash.truncate(length);
+            }
+            for _ in 0..12 {
+                let call = random_call(&mut rng, g, &keys);
+                match compare(call, &mut table.memory, &mut table.flash) {
+                    Answer::Refused(number, _) => refused[number as usize] += 1,
+                    _ => accepted += 1,
+                }
+            }
+            if table.memory.len() < memory_need(g) || table.flash.len() < flash_need(g) {
+                break;
+            }
+        }
+    }
+    println!("accepted {accepted}, refused {refused:?}");
+    assert!(accepted > 10_000);
+    for number in [2, 3, 4, 11, 12, 13, 14, 15, 16, 17] {
+        assert!(
+            refused[number] > 20,
+            "refusal {number} was hardly ever seen"
+        );
+    }
+}
+
+#[test]
+fn areas_of_random_bytes() {
+    for seed in 0..2000 {
+        println!("seed {seed}");
+        let mut rng = Rng(1 << 32 | seed);
+        let g = rng.small_geometry();
+        let keys = rng.keys(8);
+        let (more, other) = (rng.below(20), rng.below(20));
+        let mut memory = rng.bytes(memory_need(g) + more);
+        let mut flash = rng.bytes(flash_need(g) + other);
+        if rng.one_in(2) {
+            memory[..32].copy_from_slice(&g.to_opening());
+            // Small counts, so that more than the first look is needed.
+            for byte in &mut memory[32..] {
+                *byte &= rng.pick(&[0, 0, 0, 1, 255]);
+            }
+        }
+        for _ in 0..10 {
+            let call = random_call(&mut rng, g, &keys);
+            compare(call, &mut memory, &mut flash);
+        }
+        compare(Call::Format(g), &mut memory, &mut flash);
+    }
+}
+
+#[test]
+fn formats_of_any_numbers() {
+    let mut rng = Rng(5);
+    let numbers = [
+        0,
+        1,
+        2,
+        3,
+        8,
+        9,
+        32,
+        33,
+        63,
+        64,
+        65,
+        96,
+        128,
+        4096,
+        65536,
+        1 << 31,
+    ];
+    for _ in 0..3000 {
+        let mut n = [1, 64, 2, 2, 64, 3, 4];
+        for _ in 0..rng.below(4) {
+            n[rng.below(7)] = rng.pick(&numbers);
+        }
+        let (memory_length, flash_length) = (rng.below(4000), rng.below(4000));
+        let mut memory = rng.bytes(memory_length);
+        let mut flash = rng.bytes(flash_length);
+        compare(Call::Format(geometry(n)), &mut memory, &mut flash);
+    }
+}

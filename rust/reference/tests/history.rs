@@ -1,0 +1,200 @@
+//! The history rule: whatever the list of calls, a get answers what the calls
+//! before it say, within the reads and the page writes that are allowed.
+
+mod common;
+
+use std::collections::HashMap;
+
+use common::call::{call_index, Answer, Call};
+use common::{flash_need, geometry, memory_need, Rng};
+use reference::Geometry;
+
+/// What document 01 holds of a list of calls, fed from the arguments, the
+/// refusals and the pages that puts wrote, and from nothing else.
+struct History {
+    g: Geometry,
+    keys: HashMap<u64, (u64, u32)>,
+    live: HashMap<u64, u32>,
+    puts: u64,
+    put_pages: u64,
+}
+
+impl History {
+    fn new(g: Geometry) -> History {
+        History {
+            g,
+            keys: HashMap::new(),
+            live: HashMap::new(),
+            puts: 0,
+            put_pages: 0,
+        }
+    }
+
+    fn partition(&self, key: u64) -> u64 {
+        if self.g.parts == 0 {
+            0
+        } else {
+            key >> (64 - self.g.parts)
+        }
+    }
+
+    fn flush(&mut self, partition: u64) {
+        let (parts, kept) = (self.g.parts, self.g.kept);
+        self.keys.retain(|&key, (_, age)| {
+            if parts == 0 || key >> (64 - parts) == partition {
+                *age += 1;
+            }
+            *age <= kept
+        });
+        let live = self.live.entry(partition).or_default();
+        *live = (*live + 1).min(kept);
+    }
+
+    fn call(&mut self, call: Call, answer: Answer) {
+        let Answer::Done(pages) = answer else {
+            return;
+        };
+        match call {
+            Call::Format(g) => *self = History::new(g),
+            Call::Put(key, value) => {
+                if pages > 0 {
+                    self.flush(self.partition(key));
+                }
+                self.keys.insert(key, (value, 0));
+                self.puts += 1;
+                self.put_pages += u64::from(pages);
+            }
+            Call::Del(key) => drop(self.keys.remove(&key)),
+            Call::Flush(partition) => self.flush(partition.into()),
+            Call::Get(_) | Call::View(..) => unreachable!(),
+        }
+    }
+
+    fn check_get(&self, key: u64, answer: Answer) {
+        let (value, reads) = match answer {
+            Answer::Found(value, reads, _) => (Some(value), reads),
+            Answer::None(reads) => (None, reads),
+            other => panic!("get of {key}: {other:?}"),
+        };
+        assert_eq!(
+            value,
+            self.keys.get(&key).map(|held| held.0),
+            "get of {key}"
+        );
+        let live = self.live.get(&self.partition(key)).copied();
+        assert!(reads <= live.unwrap_or(0), "get of {key}: {reads} reads");
+    }
+
+    fn check_totals(&self) {
+        let entries = u64::from(self.g.page / 16 - 1);
+        assert!(self.put_pages * entries <= u64::from(self.g.pages) * self.puts);
+    }
+}
+
+/// How often each kind of call comes.
+struct Weights {
+    put: usize,
+    del: usize,
+    flush: usize,
+}
+
+fn random_call(rng: &mut Rng, g: Geometry, keys: &[u64], weights: &Weights) -> Call {
+    let Weights { put, del, flush } = *weights;
+    let kind = rng.below(put + del + flush + 2);
+    if kind < put {
+        Call::Put(rng.pick(keys), rng.next())
+    } else if kind < put + del {
+        Call::Del(rng.pick(keys))
+    } else if kind < put + del + flush {
+        Call::Flush(rng.below((1 << g.parts) + 1) as u32)
+    } else if kind == put + del + flush {
+        let number = rng.below(2 * g.kept as usize);
+        Call::View(rng.below(1 << g.parts) as u32, 0, number as u32)
+    } else {
+        Call::Get(rng.pick(keys))
+    }
+}
+
+/// The numbers that a call is refused with in a table that only calls made.
+fn check_refusal(call: Call, answer: Answer) {
+    if let Answer::Refused(number, reads) = answer {
+        let expected: &[u32] = match call {
+            Call::Del(_) => &[14],
+            Call::Flush(_) => &[4, 15],
+            Call::View(..) => &[17],
+            Call::Format(_) => &[1],
+            Call::Put(..) | Call::Get(_) => &[],
+        };
+        assert!(
+            expected.contains(&number) && reads == 0,
+            "{call:?}: {number}"
+        );
+    }
+}
+
+/// One long list of calls in a geometry.
+fn run(rng: &mut Rng, g: Geometry, steps: usize, memory: &mut [u8], flash: &mut [u8]) {
+    let held = (g.pages * (g.page / 16 - 1) * (g.kept + 1)) << g.parts;
+    let number = 2 + rng.below(2 * held as usize);
+    let keys = rng.keys(number);
+    let weights = Weights {
+        put: 1 + rng.below(30),
+        del: rng.below(12),
+        flush: rng.below(3),
+    };
+    let mut history = History::new(g);
+    for step in 0..steps {
+        let call = match step {
+            0 => Call::Format(g),
+            _ if rng.one_in(4000) => Call::Format(Geometry { kept: 0, ..g }),
+            _ => random_call(rng, g, &keys, &weights),
+        };
+        let answer = call_index(call, memory, flash);
+        check_refusal(call, answer);
+        history.call(call, answer);
+        history.check_totals();
+        for _ in 0..2 {
+            let key = rng.pick(&keys);
+            history.check_get(key, call_index(Call::Get(key), memory, flash));
+        }
+        if step % 256 == 0 || step + 1 == steps {
+            for &key in &keys {
+                history.check_get(key, call_index(Call::Get(key), memory, flash));
+            }
+        }
+    }
+}
+
+#[test]
+fn long_lists_of_calls_in_small_geometries() {
+    for seed in 0..600 {
+        println!("seed {seed}");
+        let mut rng = Rng(seed);
+        let mut memory = rng.bytes(40_000);
+        let mut flash = rng.bytes(50_000);
+        // Two tables in turn over the same areas.
+        for _ in 0..2 {
+            let g = rng.small_geometry();
+            assert!(memory_need(g) <= memory.len() && flash_need(g) <= flash.len());
+            println!("{g:?}");
+            run(&mut rng, g, 2000, &mut memory, &mut flash);
+        }
+    }
+}
+
+#[test]
+fn long_lists_of_calls_in_larger_geometries() {
+    let geometries = [
+        geometry([8, 64, 1, 32, 64, 8, 1]),
+        geometry([0, 4096, 64, 2, 65536, 8, 1024]),
+        geometry([2, 1024, 8, 32, 8192, 5, 64]),
+        geometry([5, 256, 4, 7, 1024, 6, 20]),
+        geometry([0, 64, 64, 32, 512, 1, 1000]),
+    ];
+    for (seed, g) in geometries.into_iter().enumerate() {
+        println!("seed {seed}, {g:?}");
+        let mut rng = Rng(9000 + seed as u64);
+        let (mut memory, mut flash) = (vec![0xff; memory_need(g)], vec![0xff; flash_need(g)]);
+        run(&mut rng, g, 60_000, &mut memory, &mut flash);
+    }
+}

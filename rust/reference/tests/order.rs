@@ -1,0 +1,175 @@
+//! Where two refusals hold at once, the earlier one is given.
+
+mod common;
+
+use common::{set_word, Table, G, WIDE};
+use reference::{format, Geometry, Refusal};
+
+type Call = fn(&mut Table) -> Result<(), Refusal>;
+
+const PUT: Call = |t| t.put(1, 1).map(drop);
+const GET: Call = |t| t.get(1).map(drop);
+const DEL: Call = |t| t.del(1);
+const FLUSH: Call = |t| t.flush(0).map(drop);
+const VIEW: Call = |t| t.view(0, 0, 9).map(drop);
+const ALL: [Call; 5] = [PUT, GET, DEL, FLUSH, VIEW];
+
+#[test]
+fn format_checks_1_2_3() {
+    let bad = Geometry { kept: 0, ..G };
+    let none = Table {
+        g: G,
+        memory: vec![0; 10],
+        flash: vec![],
+    };
+    assert_eq!(
+        none.refuses(|t| format(&mut t.memory, &t.flash, bad)),
+        (1, 0)
+    );
+    assert_eq!(none.refuses(|t| format(&mut t.memory, &t.flash, G)), (2, 0));
+    let mut flashless = Table::new(G);
+    flashless.flash.clear();
+    assert_eq!(
+        flashless.refuses(|t| format(&mut t.memory, &t.flash, bad)),
+        (1, 0)
+    );
+    assert_eq!(
+        flashless.refuses(|t| format(&mut t.memory, &t.flash, G)),
+        (3, 0)
+    );
+}
+
+#[test]
+fn short_of_32_bytes_comes_before_the_opening_numbers() {
+    // What is there of the opening numbers is not allowed either.
+    let table = Table {
+        g: G,
+        memory: vec![0xff; 31],
+        flash: vec![],
+    };
+    for call in ALL {
+        assert_eq!(table.refuses(call), (2, 0));
+    }
+}
+
+#[test]
+fn the_opening_numbers_come_before_the_need() {
+    let mut table = Table::new(G);
+    table.memory.truncate(40);
+    table.flash.clear();
+    for call in ALL {
+        assert_eq!(table.refuses(call), (2, 0));
+    }
+    set_word(&mut table.memory, 28, 1);
+    for call in ALL {
+        assert_eq!(table.refuses(call), (11, 0));
+    }
+}
+
+#[test]
+fn memory_comes_before_flash() {
+    let mut table = Table::new(G);
+    table.memory.truncate(143);
+    table.flash.truncate(127);
+    for call in ALL {
+        assert_eq!(table.refuses(call), (2, 0));
+    }
+}
+
+#[test]
+fn flash_comes_before_the_arguments_and_the_state() {
+    let mut table = Table::new(G);
+    table.flash.truncate(127);
+    table.set_listed(0, 2);
+    for call in ALL {
+        assert_eq!(table.refuses(call), (3, 0));
+    }
+    assert_eq!(table.refuses(|t| t.flush(1)), (3, 0));
+    assert_eq!(table.refuses(|t| t.view(1, 0, 0).map(drop)), (3, 0));
+    assert_eq!(table.refuses(|t| t.view(0, 1, 0).map(drop)), (3, 0));
+}
+
+#[test]
+fn the_arguments_come_before_the_counts() {
+    let mut table = Table::new(WIDE);
+    for t in 0..2 {
+        table.set_listed(t, 4);
+        table.buffer(t, 0)[0] = 4;
+    }
+    assert_eq!(table.refuses(|t| t.flush(2)), (4, 0));
+    assert_eq!(table.refuses(|t| t.view(2, 0, 0).map(drop)), (4, 0));
+    assert_eq!(table.refuses(|t| t.view(0, 2, 0).map(drop)), (4, 0));
+    assert_eq!(table.refuses(|t| t.flush(1)), (12, 0));
+    assert_eq!(table.refuses(|t| t.view(0, 1, 0).map(drop)), (12, 0));
+}
+
+#[test]
+fn del_the_counts_come_before_the_full_list() {
+    let mut table = Table::new(G);
+    table.set_flushes(0, 1);
+    table.filter(0, 0).fill(0xff);
+    table.set_listed(0, 1);
+    assert_eq!(table.refuses(DEL), (14, 0));
+    table.buffer(0, 0)[0] = 4;
+    assert_eq!(table.refuses(DEL), (12, 0));
+    table.buffer(0, 0)[0] = 0;
+    table.set_listed(0, 2);
+    assert_eq!(table.refuses(DEL), (12, 0));
+}
+
+#[test]
+fn flush_checks_12_15_16() {
+    let mut table = Table::new(WIDE);
+    table.set_flushes(0, u32::MAX);
+    assert_eq!(table.refuses(FLUSH), (15, 0));
+    table.set_listed(0, 4);
+    assert_eq!(table.refuses(FLUSH), (12, 0));
+    table.set_listed(0, 0);
+    table.buffer(0, 0)[0] = 1;
+    assert_eq!(table.refuses(FLUSH), (16, 0));
+    table.buffer(0, 1)[0] = 4;
+    assert_eq!(table.refuses(FLUSH), (12, 0));
+}
+
+#[test]
+fn put_checks_12_before_16() {
+    let mut table = Table::new(WIDE);
+    table.set_flushes(0, u32::MAX);
+    table.fill_buffer(0, 1, &[(3, 1), (5, 1), (7, 1)]);
+    assert_eq!(table.refuses(PUT), (16, 0));
+    // Another page's count, which only the flush that is due reads.
+    table.buffer(0, 0)[0] = 4;
+    assert_eq!(table.refuses(PUT), (12, 0));
+    table.buffer(0, 0)[0] = 0;
+    table.set_listed(0, 4);
+    assert_eq!(table.refuses(PUT), (12, 0));
+}
+
+#[test]
+fn view_checks_12_17_13() {
+    let mut table = Table::new(G);
+    table.set_flushes(0, 4);
+    table.flash.fill(0xff);
+    // 3 and 4 are live, but no such pages lie there.
+    assert_eq!(table.refuses(|t| t.view(0, 0, 4).map(drop)), (13, 1));
+    assert_eq!(table.refuses(|t| t.view(0, 0, 3).map(drop)), (13, 1));
+    assert_eq!(table.refuses(|t| t.view(0, 0, 2).map(drop)), (17, 0));
+    assert_eq!(table.refuses(|t| t.view(0, 0, 5).map(drop)), (17, 0));
+    table.set_listed(0, 2);
+    for number in [0, 2, 4, 5] {
+        assert_eq!(table.refuses(|t| t.view(0, 0, number).map(drop)), (12, 0));
+    }
+}
+
+#[test]
+fn get_checks_12_before_13() {
+    let mut table = Table::new(G);
+    table.set_flushes(0, 1);
+    table.filter(0, 0).fill(0xff);
+    assert_eq!(table.refuses(GET), (13, 1));
+    table.buffer(0, 0)[0] = 4;
+    assert_eq!(table.refuses(GET), (12, 0));
+    table.buffer(0, 0)[0] = 0;
+    table.set_listed(0, 2);
+    assert_eq!(table.refuses(GET), (12, 0));
+}
