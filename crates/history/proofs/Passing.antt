@@ -2,7 +2,7 @@
 use Prim.Native.Nat.{ℕ, zero, suc, _+_, _-_, _≤_, _<_}
 use mathlib.Core.Bool.{Bool, true}
 use mathlib.Core.Path.{_≡_, refl, _∙_, ap}
-use mathlib.Core.List.{List, [], _∷_}
+use mathlib.Core.List.{List}
 use native.Mathlib.Omega.{arith}
 use lib.Dec.{eqb}
 use Rattle.model.specs.declared.Geometry.{Geometry}
@@ -12,8 +12,8 @@ use Rattle.model.specs.Filter.{passes}
 use Rattle.model.specs.Partition.{filterOf, slot, passingFrom, passing}
 use Rattle.model.specs.Get.{batchPage}
 use Rattle.model.proofs.Sizes.{sizes}
-use Rattle.model.proofs.Tables.{Entry, any, all, anyBelow, bitsOf, hasBit, passesAll}
-use Rattle.model.proofs.FilterBits.{passes-filterFor}
+use Rattle.model.proofs.Tables.{Entry, any, anyBelow, bitsOf, hasBit, passesAll}
+use Rattle.model.proofs.FilterBits.{all-ext, passes-filterFor}
 use Rattle.history.proofs.Table.{Part, Live, passingFrom as passingIn, passing as passingOf}
 use Rattle.history.proofs.Shows.{ShowsPart}
 
@@ -23,14 +23,9 @@ unfolding anyBelow
 below-same f f′ zero e = refl
 below-same f f′ (suc n) e = rw (e n (omega arith), below-same f f′ n (λ q l. e q (omega arith)))
 
-all-same : (f f′ : ℕ → Bool) (l : List ℕ) → ((b : ℕ) → f b ≡ f′ b) → all f l ≡ all f′ l
-unfolding all
-all-same f f′ [] e = refl
-all-same f f′ (x ∷ l) e = rw (e x, all-same f f′ l e)
-
 passes-same : (g : Geometry) (k : ℕ) (pages pages′ : ℕ → List Entry) → ((q : ℕ) → q < g .pages → pages q ≡ pages′ q) → passesAll g pages k ≡ passesAll g pages′ k
 unfolding passesAll hasBit
-passes-same g k pages pages′ e = all-same _ _ (bitsOf g k)
+passes-same g k pages pages′ e = all-ext _ _ (bitsOf g k)
     (λ b. below-same _ _ (g .pages) (λ q l. ap (any (λ x. any (eqb b) (bitsOf g (x .key)))) (e q l)))
 
 module _ (g : Geometry) (ok : allowed g ≡ true) (t : ℕ) (p f : List ℕ) (s : Part) (shows : ShowsPart g t p f s) (k : ℕ) where

@@ -125,7 +125,7 @@ module _ (g : Geometry) (x : ℕ) (f : List ℕ) where
   unfolding passes
   passes-all = none-missing (g .hashes)
 
-all-ext : (s t : ℕ → Bool) (l : List ℕ) → ((b : ℕ) → s b ≡ t b) → all s l ≡ all t l
+pub all-ext : (s t : ℕ → Bool) (l : List ℕ) → ((b : ℕ) → s b ≡ t b) → all s l ≡ all t l
 unfolding all
 all-ext s t [] h = refl
 all-ext s t (x ∷ l) h = rw (h x, all-ext s t l h)

@@ -154,6 +154,10 @@ pub within-sets : (a n : ℕ) (f : List ℕ → List ℕ) (xs : List ℕ) → wi
 unfolding within
 within-sets a n f xs = refl
 
+-- what is done to a part is what matters there alone
+pub within-same : (a n : ℕ) (f h : List ℕ → List ℕ) (xs : List ℕ) → f (mid a n xs) ≡ h (mid a n xs) → within a n f xs ≡ within a n h xs
+within-same a n f h xs e = within-sets a n f xs ∙ ap (λ (ys : List ℕ). sets xs a (take n ys)) e ∙ sym (within-sets a n h xs)
+
 -- elements set in a part that is put back
 pub sets-mid : (a n j : ℕ) (xs vs : List ℕ) → j + length vs ≤ n → a + n ≤ length xs → sets xs a (sets (mid a n xs) j vs) ≡ sets xs (a + j) vs
 sets-mid a n j xs vs q k =

@@ -117,3 +117,8 @@ linesOf (x ∷ xs) = cond (eqb x 10) ([] ∷ linesOf xs) (startedBy x (linesOf x
 unfoldable pub printed : List (List ℕ) → Areas → List ℕ
 printed [] a = []
 printed (l ∷ ls) a = linePrints l a ++ printed ls (lineLeaves l a)
+
+-- both areas as a session leaves them
+unfoldable pub left : List (List ℕ) → Areas → Areas
+left [] a = a
+left (l ∷ ls) a = left ls (lineLeaves l a)
