@@ -12,13 +12,10 @@ fn is_power(n: u32, low: u32, high: u32) -> bool
     requires { ⌜ high < 32 ⌝ }
     ensures { λ r. ⌜ r ≡ isPower low high n ⌝ }
 {
-    if n == 0 {
+    if n < 1u32 << low {
         return false;
     }
     if n & (n - 1) != 0 {
-        return false;
-    }
-    if n < 1u32 << low {
         return false;
     }
     n <= 1u32 << high
