@@ -1,3 +1,4 @@
 pub mod Checks
 pub mod Inside
+pub mod Lending
 pub mod Passing

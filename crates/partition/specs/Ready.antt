@@ -1,6 +1,6 @@
 -- What the functions on one partition's bytes ask of them.
 use Prim.Native.Nat.{ℕ, _≤_, _<_}
-use mathlib.Core.Bool.{true}
+use mathlib.Core.Bool.{Bool, true, _||_}
 use mathlib.Core.List.{List}
 use mathlib.Core.Option.{Option, none, some}
 use mathlib.Core.Path.{_≡_}
@@ -10,7 +10,7 @@ use Rattle.model.specs.Geometry.{allowed, partitions, capacity, stride}
 use Rattle.model.specs.Keys.{pageOf}
 use Rattle.model.specs.Page.{countOf, searched}
 use Rattle.model.specs.Partition.{flushesOf, listedOf, bufferOf}
-use Rattle.model.specs.Refusals.{lastFlush}
+use Rattle.model.specs.Refusals.{listOverfull, pageOverfull, lastFlush}
 use Rattle.partition.specs.declared.Verdict.{Verdict}
 use Rattle.partition.specs.declared.Verdict.the-variants.{Accepted, Refused}
 
@@ -24,7 +24,11 @@ pub record Whole (g : Geometry) (p : List ℕ) : Type 0 where
   pub fine : allowed g ≡ true
   pub long : length p ≡ stride g
 
--- the key's buffer page and the list count no more than they hold
+-- 12 for a call with a key: the list or the key's buffer page counts more than it holds
+unfoldable pub overfull : Geometry → ℕ → List ℕ → Bool
+overfull g k p = listOverfull g p || pageOverfull g p (pageOf g k)
+
+-- neither does
 pub record Countable (g : Geometry) (k : ℕ) (p : List ℕ) : Type 0 where
   pub listFits : listedOf p ≤ g .list
   pub pageFits : countOf (bufferOf g p (pageOf g k)) ≤ capacity g

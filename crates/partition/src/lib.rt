@@ -1,16 +1,18 @@
 // What several calls ask of one partition's bytes, and how its buffer is emptied.
 ghost use mathlib.Core.Bool.{true};
 ghost use mathlib.Core.Path.{_≡_};
-ghost use Prim.Native.Nat.{_≤_, _<_};
+ghost use Prim.Native.Nat.{ℕ, _+_, _≤_, _<_};
 ghost use lib.ListN.{length};
-ghost use Rattle.model.specs.Geometry.{allowed, partitions, capacity};
-ghost use Rattle.model.specs.Page.{countOf, searched};
+ghost use Rattle.model.specs.Bytes.{within};
+ghost use Rattle.model.specs.Geometry.{allowed, partitions, capacity, bufferAt, memoryNeed};
+ghost use Rattle.model.specs.Keys.{partitionOf};
+ghost use Rattle.model.specs.Page.{countOf, searched, emptied};
 ghost use Rattle.model.specs.DeleteList.{listedAt};
-ghost use Rattle.model.specs.Partition.{listedOf, listOf, bufferOf, slot, live};
+ghost use Rattle.model.specs.Partition.{partition, listedOf, listOf, bufferOf, slot, live};
 ghost use Rattle.model.specs.Refusals.{listOverfull, pageOverfull, somePageOverfull};
 ghost use Rattle.model.specs.Format.{emptiedPages};
 ghost use Rattle.records.specs.Found.{place};
-ghost use Rattle.partition.specs.Ready.{Whole};
+ghost use Rattle.partition.specs.Ready.{Whole, overfull};
 use model::Geometry;
 use records::Found;
 
@@ -18,6 +20,26 @@ use records::Found;
 pub enum Verdict {
     Accepted,
     Refused(u32),
+}
+
+// Partition t, as a part of memory.
+pub fn part_of(memory: &[u8], g: Geometry, t: u32) -> &[u8]
+    requires { ⌜ allowed g ≡ true ⌝ }
+    requires { ⌜ memoryNeed g ≤ length (now memory) ⌝ }
+    requires { ⌜ t < partitions g ⌝ }
+    ensures { λ r. ⌜ now r ≡ partition g t (now (memory .entry)) ⌝ }
+{
+    let a = geometry::partition_at(g, t);
+    let e = a + geometry::partition_size(g);
+    &memory[a..e]
+}
+
+pub fn part_of_key(memory: &[u8], g: Geometry, key: u64) -> &[u8]
+    requires { ⌜ allowed g ≡ true ⌝ }
+    requires { ⌜ memoryNeed g ≤ length (now memory) ⌝ }
+    ensures { λ r. ⌜ now r ≡ partition g (partitionOf g key) (now (memory .entry)) ⌝ }
+{
+    part_of(memory, g, geometry::partition_of(g, key))
 }
 
 // Does the head say more listed keys than there are places?
@@ -49,15 +71,22 @@ pub fn is_some_page_overfull(part: &[u8], g: Geometry) -> bool
     requires { ⌜ Whole g (now part) ⌝ }
     ensures { λ r. ⌜ r ≡ somePageOverfull g (now (part .entry)) ⌝ }
 {
-    let pages = g.pages;
     let mut q = 0;
-    while q < pages {
+    while q < g.pages {
         if is_page_overfull(part, g, q) {
             return true;
         }
         q += 1;
     }
     false
+}
+
+// 12 for a call with a key: does the list, or the key's buffer page, count more than it holds?
+pub fn is_overfull(part: &[u8], g: Geometry, key: u64) -> bool
+    requires { ⌜ Whole g (now part) ⌝ }
+    ensures { λ r. ⌜ r ≡ overfull g key (now (part .entry)) ⌝ }
+{
+    is_list_overfull(part, g) | is_page_overfull(part, g, geometry::page_of(g, key))
 }
 
 // The first list entry of the key.
@@ -83,19 +112,28 @@ pub fn find_buffered(part: &[u8], g: Geometry, q: u32, key: u64) -> Found
     page::search(&part[a..e], key)
 }
 
-// All buffer pages are emptied, as format leaves them.
+// Buffer page q is emptied, as format leaves it.
+pub fn empty_page(part: &mut [u8], g: Geometry, t: u32, q: u32)
+    requires { ⌜ Whole g (now part) ⌝ }
+    requires { ⌜ t < partitions g ⌝ }
+    requires { ⌜ q < g .pages ⌝ }
+    ensures { λ _. ⌜ now (part .exit) ≡ within (bufferAt g q) (g .page) (emptied q t) (now (part .entry)) ⌝ }
+{
+    let a = geometry::buffer_at(g, q);
+    let e = a + g.page as usize;
+    page::empty(&mut part[a..e], q as u16, t as u16);
+}
+
+// All of them.
 pub fn empty_pages(part: &mut [u8], g: Geometry, t: u32)
     requires { ⌜ Whole g (now part) ⌝ }
     requires { ⌜ t < partitions g ⌝ }
     ensures { λ _. ⌜ now (part .exit) ≡ emptiedPages g t (g .pages) (now (part .entry)) ⌝ }
 {
     let pages = g.pages;
-    let size = g.page as usize;
     let mut q = 0;
     while q < pages {
-        let a = geometry::buffer_at(g, q);
-        let e = a + size;
-        page::empty(&mut part[a..e], q as u16, t as u16);
+        empty_page(part, g, t, q);
         q += 1;
     }
 }
@@ -107,6 +145,17 @@ pub fn slot_of(g: Geometry, n: u32) -> u32
     ensures { λ r. ⌜ r ≡ slot g n ⌝ }
 {
     (n - 1) % g.kept
+}
+
+// The slot of a batch, from that of the batch after it: a way down through the batches that divides nothing.
+pub fn slot_before(g: Geometry, after: u32) -> u32
+    requires { ⌜ allowed g ≡ true ⌝ }
+    ensures { λ r. ⌜ ((n : ℕ) → 1 ≤ n → after ≡ slot g (n + 1) → r ≡ slot g n) ⌝ }
+{
+    if after == 0 {
+        return g.kept - 1;
+    }
+    after - 1
 }
 
 // How many batches are live.

@@ -1,0 +1,46 @@
+-- Where a partition lies in memory, and what a part `memory[a..a + n]` is that begins and ends as it does: one fact for all functions that lend it.
+use Prim.Native.Nat.{ℕ, _+_, _-_, _^_, _≤_, _<_}
+use mathlib.Core.Bool.{true}
+use mathlib.Core.List.{List}
+use mathlib.Core.Path.{_≡_}
+use native.Mathlib.Nat.{add-sub-cancel-left}
+use native.Mathlib.Omega.{arith}
+use lib.ListN.{length}
+use borrow.Rule.Slice.PartMut.{putMid}
+use Rattle.model.specs.declared.Geometry.{Geometry}
+use Rattle.model.specs.Bytes.{mid, within}
+use Rattle.model.specs.Geometry.{allowed, partitions, stride, partitionAt, memoryNeed}
+use Rattle.model.specs.Keys.{partitionOf}
+use Rattle.model.specs.Partition.{partition}
+use Rattle.model.proofs.Parts.{lent, length-mid}
+use Rattle.model.proofs.Sizes.{partition-fits, partition-of-lt}
+use Rattle.partition.specs.Ready.{Whole}
+
+-- the part is partition t, and a change of it that keeps its length is one of memory there
+pub record Lent (g : Geometry) (t : ℕ) (m : List ℕ) (a n : ℕ) : Type 0 where
+  pub inside : a + n ≤ length m
+  pub own : mid a (a + n - a) m ≡ partition g t m
+  pub whole : Whole g (mid a (a + n - a) m)
+  pub back : (f : List ℕ → List ℕ) → ((p : List ℕ) → length (f p) ≡ length p) → (ys : List ℕ) → ys ≡ f (mid a (a + n - a) m) → putMid a (a + n - a) m ys ≡ within (partitionAt g t) (stride g) f m
+
+module _ (g : Geometry) (m : List ℕ) (fine : allowed g ≡ true) (long : memoryNeed g ≤ length m) where
+  module _ (t : ℕ) (below : t < partitions g) where
+    pub partition-inside : partitionAt g t + stride g ≤ length m
+    partition-inside = omega (arith, partition-fits g t below)
+
+    pub partition-whole : Whole g (partition g t m)
+    partition-whole = record { fine = fine; long = length-mid _ _ m partition-inside }
+
+    pub lends : (a n : ℕ) → a ≡ partitionAt g t → n ≡ stride g → Lent g t m a n
+    lends a n ea en =
+        rw (ea, en)
+        (record {
+          inside = partition-inside;
+          own = rw add-sub-cancel-left;
+          whole = rw add-sub-cancel-left partition-whole;
+          back = λ f keeps ys e. lent (partitionAt g t) (stride g) f m ys partition-inside keeps e;
+        })
+
+  -- the same for the partition of a key
+  pub lends-key : (k : ℕ) → k < 2 ^ 64 → (t a n : ℕ) → t ≡ partitionOf g k → a ≡ partitionAt g t → n ≡ stride g → Lent g (partitionOf g k) m a n
+  lends-key k l t a n et ea en = lends (partitionOf g k) (partition-of-lt g fine k l) a n (rw et at ea) en
