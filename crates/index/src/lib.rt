@@ -8,7 +8,6 @@ use answers::Refusal;
 use answers::Viewed;
 use answers::Written;
 use model::Geometry;
-use opening::Opened;
 
 // Memory becomes an empty table; flash is left as it is.
 pub fn format(memory: &mut [u8], flash: &[u8], g: Geometry) -> Written
@@ -21,40 +20,48 @@ pub fn format(memory: &mut [u8], flash: &[u8], g: Geometry) -> Written
 pub fn put(memory: &mut [u8], flash: &mut [u8], key: u64, value: u64) -> Written
     ensures { λ r. ⌜ Performs (Call.put key value) (now (memory .entry)) (now (flash .entry)) (written r) (now (memory .exit)) (now (flash .exit)) ⌝ }
 {
-    match opening::open(memory, flash) {
-        Opened::Refused(number) => Written::Refused(Refusal { number, reads: 0 }),
-        Opened::Table(g) => put::call(memory, flash, g, key, value),
+    let number = opening::check(memory, flash);
+    if number != 0 {
+        return Written::Refused(Refusal { number, reads: 0 });
     }
+    let g = opening::geometry_of(memory);
+    put::call(memory, flash, g, key, value)
 }
 
 // The key's value and where it was, or none; with the pages read.
 pub fn get(memory: &[u8], flash: &[u8], key: u64) -> Answer
     ensures { λ r. ⌜ Performs (Call.get key) (now (memory .entry)) (now (flash .entry)) (answered r) (now (memory .entry)) (now (flash .entry)) ⌝ }
 {
-    match opening::open(memory, flash) {
-        Opened::Refused(number) => Answer::Refused(Refusal { number, reads: 0 }),
-        Opened::Table(g) => get::call(memory, flash, g, key),
+    let number = opening::check(memory, flash);
+    if number != 0 {
+        return Answer::Refused(Refusal { number, reads: 0 });
     }
+    let g = opening::geometry_of(memory);
+    get::call(memory, flash, g, key)
 }
 
 // The key is found no more, until it is put again.
 pub fn del(memory: &mut [u8], flash: &[u8], key: u64) -> Written
     ensures { λ r. ⌜ Performs (Call.del key) (now (memory .entry)) (now (flash .entry)) (written r) (now (memory .exit)) (now (flash .entry)) ⌝ }
 {
-    match opening::open(memory, flash) {
-        Opened::Refused(number) => Written::Refused(Refusal { number, reads: 0 }),
-        Opened::Table(g) => del::call(memory, flash, g, key),
+    let number = opening::check(memory, flash);
+    if number != 0 {
+        return Written::Refused(Refusal { number, reads: 0 });
     }
+    let g = opening::geometry_of(memory);
+    del::call(memory, flash, g, key)
 }
 
 // The partition's buffer becomes a batch in flash; tells the pages written.
 pub fn flush(memory: &mut [u8], flash: &mut [u8], partition: u32) -> Written
     ensures { λ r. ⌜ Performs (Call.flush partition) (now (memory .entry)) (now (flash .entry)) (written r) (now (memory .exit)) (now (flash .exit)) ⌝ }
 {
-    match opening::open(memory, flash) {
-        Opened::Refused(number) => Written::Refused(Refusal { number, reads: 0 }),
-        Opened::Table(g) => flush::call(memory, flash, g, partition),
+    let number = opening::check(memory, flash);
+    if number != 0 {
+        return Written::Refused(Refusal { number, reads: 0 });
     }
+    let g = opening::geometry_of(memory);
+    flush::call(memory, flash, g, partition)
 }
 
 // Where one page stands, in memory or in flash, or the refusal with its reads.
@@ -62,10 +69,12 @@ pub fn view_outcome(memory: &[u8], flash: &[u8], partition: u32, page: u32, flus
     ensures { λ r. ⌜ Performs (Call.view partition page flush) (now (memory .entry)) (now (flash .entry)) (viewed r) (now (memory .entry)) (now (flash .entry)) ⌝ }
     ensures { λ r. ⌜ Inside r (now (memory .entry)) (now (flash .entry)) ⌝ }
 {
-    match opening::open(memory, flash) {
-        Opened::Refused(number) => Viewed::Refused(Refusal { number, reads: 0 }),
-        Opened::Table(g) => view::call(memory, flash, g, partition, page, flush),
+    let number = opening::check(memory, flash);
+    if number != 0 {
+        return Viewed::Refused(Refusal { number, reads: 0 });
     }
+    let g = opening::geometry_of(memory);
+    view::call(memory, flash, g, partition, page, flush)
 }
 
 // The page itself, as a part of memory or of flash; of a refused view, an empty part of memory.

@@ -1,4 +1,4 @@
--- What opening a table answers, and what an opened table gives the calls.
+-- What the checks of an opening answer, and what an opened table gives the calls.
 use Prim.Native.Nat.{ℕ, _≤_}
 use mathlib.Core.Bool.{true, cond, not, _||_}
 use mathlib.Core.List.{List}
@@ -10,15 +10,14 @@ use Rattle.model.specs.declared.Geometry.{Geometry}
 use Rattle.model.specs.Geometry.{allowed, memoryNeed, flashNeed}
 use Rattle.model.specs.Opening.{openingSize, geometryOf, eighth}
 use Rattle.model.specs.Refusals.{unopened}
-use Rattle.opening.specs.declared.Opened.{Opened}
-use Rattle.opening.specs.declared.Opened.the-variants.{Table, Refused}
 
-unfoldable pub opened : List ℕ → List ℕ → Opened
-opened m f =
-    cond (ltb (length m) openingSize) (Refused 2)
-    (cond (not (allowed (geometryOf m)) || not (eqb (eighth m) 0)) (Refused 11)
-    (cond (ltb (length m) (memoryNeed (geometryOf m))) (Refused 2)
-    (cond (ltb (length f) (flashNeed (geometryOf m))) (Refused 3) (Table (geometryOf m)))))
+-- the refusal of the checks that every call but format begins with, or 0
+unfoldable pub refusal : List ℕ → List ℕ → ℕ
+refusal m f =
+    cond (ltb (length m) openingSize) 2
+    (cond (not (allowed (geometryOf m)) || not (eqb (eighth m) 0)) 11
+    (cond (ltb (length m) (memoryNeed (geometryOf m))) 2
+    (cond (ltb (length f) (flashNeed (geometryOf m))) 3 0)))
 
 -- memory and flash are a table with this geometry: the common checks stop no call
 pub record IsTable (g : Geometry) (m f : List ℕ) : Type 0 where

@@ -3,15 +3,11 @@ ghost use mathlib.Core.Path.{_≡_};
 ghost use Prim.Native.Nat.{_≤_};
 ghost use lib.ListN.{length};
 ghost use Rattle.model.specs.Opening.{geometryOf};
-ghost use Rattle.opening.specs.Opened.{opened};
+ghost use Rattle.opening.specs.Opened.{refusal};
 use model::Geometry;
 
-pub enum Opened {
-    Table(Geometry),
-    Refused(u32),
-}
-
-fn read_geometry(memory: &[u8]) -> Geometry
+// The numbers that memory opens with.
+pub fn geometry_of(memory: &[u8]) -> Geometry
     requires { ⌜ 32 ≤ length (now memory) ⌝ }
     ensures { λ r. ⌜ r ≡ geometryOf (now (memory .entry)) ⌝ }
 {
@@ -26,25 +22,25 @@ fn read_geometry(memory: &[u8]) -> Geometry
     }
 }
 
-// 2, 11, 2, 3; otherwise the geometry that memory opens with.
-pub fn open(memory: &[u8], flash: &[u8]) -> Opened
-    ensures { λ r. ⌜ r ≡ opened (now (memory .entry)) (now (flash .entry)) ⌝ }
+// 2, 11, 2, 3, or 0 for a table. A number fits a register, and the calls read the geometry behind it.
+pub fn check(memory: &[u8], flash: &[u8]) -> u32
+    ensures { λ r. ⌜ r ≡ refusal (now (memory .entry)) (now (flash .entry)) ⌝ }
 {
     if memory.len() < 32 {
-        return Opened::Refused(2);
+        return 2;
     }
-    let g = read_geometry(memory);
+    let g = geometry_of(memory);
     if !geometry::is_allowed(g) {
-        return Opened::Refused(11);
+        return 11;
     }
     if words::u32_at(memory, 28) != 0 {
-        return Opened::Refused(11);
+        return 11;
     }
     if memory.len() < geometry::memory_need(g) {
-        return Opened::Refused(2);
+        return 2;
     }
     if flash.len() < geometry::flash_need(g) {
-        return Opened::Refused(3);
+        return 3;
     }
-    Opened::Table(g)
+    0
 }

@@ -1,13 +1,12 @@
 -- What is shown lies within its area, and is the part that the definition names.
 use Prim.Native.Nat.{_+_, _≤_}
-use mathlib.Core.Path.{_≡_, sym, _∙_, ap}
+use mathlib.Core.Path.{sym, _∙_, ap}
 use native.Mathlib.Nat.{add-sub-cancel-left}
 use native.Mathlib.Omega.{arith}
 use lib.ListN.{length}
-use Rattle.model.specs.Answers.{shown, inMemory, inFlash, refused}
-use Rattle.model.specs.Calls.{Call, reply, bytesShown}
+use Rattle.model.specs.Answers.{shown}
+use Rattle.model.specs.Calls.{bytesShown}
 use Rattle.answers.specs.Told.{viewed}
-use Rattle.answers.specs.Performs.{areas}
 use borrow.Author.Needs.{needs}
 use Rattle.index.proofs.view.Statement.{statement}
 use Rattle.index.proofs.view.Tie as tie
