@@ -4,17 +4,16 @@ use mathlib.Core.List.{List}
 use mathlib.Core.Option.{none, some}
 use mathlib.Core.Path.{_≡_, refl, sym, _∙_, ap}
 use native.Mathlib.Omega.{arith}
-use lib.ListN.{length, take}
-use lib.Seq.{sets}
+use lib.ListN.{length}
 use Rattle.model.specs.declared.Geometry.{Geometry}
 use Rattle.model.specs.Answers.{done, refused}
-use Rattle.model.specs.Bytes.{mid, within}
+use Rattle.model.specs.Bytes.{within}
 use Rattle.model.specs.Calls.{Call, result}
 use Rattle.model.specs.Del.{delChecks, unbuffered, listedWith, deleted}
 use Rattle.model.specs.Geometry.{stride, partitionAt}
 use Rattle.model.specs.Keys.{partitionOf}
 use Rattle.model.specs.Partition.{partition}
-use Rattle.model.proofs.Parts.{within-sets, within-id}
+use Rattle.model.proofs.Parts.{within-id, within-same}
 use Rattle.model.proofs.Sizes.{partition-fits, partition-of-lt}
 use Rattle.answers.specs.Performs.{areas, Performs}
 use Rattle.answers.proofs.Performing.{refusing, doing}
@@ -23,10 +22,6 @@ use Rattle.opening.proofs.Tables.{checks-del, effect-del}
 use Rattle.del.specs.declared.Plan.{Plan}
 use Rattle.del.specs.Plans.{planFor}
 use Rattle.del.proofs.Planning.{plan-refused, plan-nothing, plan-unbuffer, plan-list}
-
--- what is done to a part is what matters there alone
-within-same : (a n : ℕ) (f h : List ℕ → List ℕ) (xs : List ℕ) → f (mid a n xs) ≡ h (mid a n xs) → within a n f xs ≡ within a n h xs
-within-same a n f h xs e = within-sets a n f xs ∙ ap (λ (ys : List ℕ). sets xs a (take n ys)) e ∙ sym (within-sets a n h xs)
 
 module _ (g : Geometry) (m f : List ℕ) (table : IsTable g m f) (k : ℕ) where
   abbrev own : List ℕ

@@ -5,10 +5,9 @@ use mathlib.Core.List.{List}
 use mathlib.Core.Option.{Option, none, some}
 use lib.Dec.{eqb}
 use Rattle.model.specs.declared.Geometry.{Geometry}
-use Rattle.model.specs.Keys.{pageOf}
 use Rattle.model.specs.Partition.{listedOf}
-use Rattle.model.specs.Refusals.{listOverfull, pageOverfull}
 use Rattle.model.specs.Del.{isListed, stampFor}
+use Rattle.partition.specs.Ready.{overfull}
 use Rattle.del.specs.declared.Youngest.{Youngest}
 use Rattle.del.specs.declared.Youngest.the-variants.{Batch, Nowhere}
 use Rattle.del.specs.declared.Plan.{Plan}
@@ -27,7 +26,4 @@ unfoldable pub planListing : Geometry → ℕ → List ℕ → Plan
 planListing g k p = planWith (stampFor g k p) (eqb (listedOf p) (g .list))
 
 unfoldable pub planFor : Geometry → ℕ → List ℕ → Plan
-planFor g k p =
-    cond (listOverfull g p) (Plan.Refused 12)
-    (cond (pageOverfull g p (pageOf g k)) (Plan.Refused 12)
-    (cond (isListed g k p) Plan.Nothing (planListing g k p)))
+planFor g k p = cond (overfull g k p) (Plan.Refused 12) (cond (isListed g k p) Plan.Nothing (planListing g k p))

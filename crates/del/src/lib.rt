@@ -42,10 +42,11 @@ fn stamp_for(part: &[u8], g: Geometry, key: u64) -> Youngest
 {
     let x = geometry::mix(key);
     let mut n = words::u32_at(part, 0);
+    let mut slot = n % g.kept;
     let mut left = partition::live_count(part, g);
     while 0 < left {
-        let at = geometry::filter_at(g, partition::slot_of(g, n));
-        if filter::has(part, at, g, x) {
+        slot = partition::slot_before(g, slot);
+        if filter::has(part, geometry::filter_at(g, slot), g, x) {
             return Youngest::Batch(n);
         }
         n -= 1;
@@ -75,10 +76,7 @@ pub fn decide(part: &[u8], g: Geometry, key: u64) -> Plan
     requires { ⌜ Whole g (now part) ⌝ }
     ensures { λ r. ⌜ r ≡ planFor g key (now (part .entry)) ⌝ }
 {
-    if partition::is_list_overfull(part, g) {
-        return Plan::Refused(12);
-    }
-    if partition::is_page_overfull(part, g, geometry::page_of(g, key)) {
+    if partition::is_overfull(part, g, key) {
         return Plan::Refused(12);
     }
     match partition::find_listed(part, g, key) {
@@ -130,17 +128,6 @@ pub fn unbuffer_and_list(part: &mut [u8], g: Geometry, key: u64, batch: u32)
     list(part, g, key, batch);
 }
 
-// The plan for the key's partition.
-fn decide_at(memory: &[u8], g: Geometry, key: u64) -> Plan
-    requires { ⌜ allowed g ≡ true ⌝ }
-    requires { ⌜ memoryNeed g ≤ length (now memory) ⌝ }
-    ensures { λ r. ⌜ r ≡ planFor g key (partition g (partitionOf g key) (now (memory .entry))) ⌝ }
-{
-    let a = geometry::partition_at(g, geometry::partition_of(g, key));
-    let e = a + geometry::partition_size(g);
-    decide(&memory[a..e], g, key)
-}
-
 // In the key's partition: out of the buffer.
 fn unbuffer_at(memory: &mut [u8], g: Geometry, key: u64)
     requires { ⌜ allowed g ≡ true ⌝ }
@@ -171,7 +158,7 @@ pub fn call(memory: &mut [u8], flash: &[u8], g: Geometry, key: u64) -> Written
     requires { ⌜ IsTable g (now memory) (now flash) ⌝ }
     ensures { λ r. ⌜ Performs (Call.del key) (now (memory .entry)) (now (flash .entry)) (written r) (now (memory .exit)) (now (flash .entry)) ⌝ }
 {
-    match decide_at(memory, g, key) {
+    match decide(partition::part_of_key(memory, g, key), g, key) {
         Plan::Refused(number) => Written::Refused(Refusal { number, reads: 0 }),
         Plan::Nothing => Written::Done(0),
         Plan::Unbuffer => {

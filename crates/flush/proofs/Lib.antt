@@ -1,1 +1,2 @@
 pub mod Flushing
+pub mod Moving

@@ -6,7 +6,9 @@ ghost use lib.ListN.{length};
 ghost use Rattle.model.specs.Bytes.{within};
 ghost use Rattle.model.specs.Geometry.{allowed, partitions, stride, partitionAt, memoryNeed, flashNeed};
 ghost use Rattle.model.specs.DeleteList.{unexpired};
-ghost use Rattle.model.specs.Partition.{partition, listOf};
+ghost use Rattle.model.specs.Partition.{partition, flushesOf, listOf};
+ghost use Rattle.model.specs.Refusals.{lastFlush};
+ghost use Rattle.model.specs.Format.{emptiedPages};
 ghost use Rattle.model.specs.Flush.{inUse, flushChecks, delisted, flushed, written};
 ghost use Rattle.model.specs.Calls.{Call};
 ghost use Rattle.partition.specs.Ready.{refusal, Whole, Flushable};
@@ -55,12 +57,13 @@ pub fn decide(part: &[u8], g: Geometry, t: u32) -> Verdict
     Verdict::Accepted
 }
 
-// The batch is written whole: each buffer page into its slot's page, with the new flush number.
-fn write_batch(part: &[u8], flash: &mut [u8], g: Geometry, t: u32)
+// The batch is written whole: each buffer page goes into its slot's page, with the new flush number, and is emptied while it is at hand.
+fn move_batch(part: &mut [u8], flash: &mut [u8], g: Geometry, t: u32)
     requires { ⌜ Whole g (now part) ⌝ }
-    requires { ⌜ Flushable g t (now part) ⌝ }
+    requires { ⌜ t < partitions g ⌝ }
+    requires { ⌜ flushesOf (now part) < lastFlush ⌝ }
     requires { ⌜ flashNeed g ≤ length (now flash) ⌝ }
-    ensures { λ _. ⌜ now (flash .exit) ≡ written g t (now (part .entry)) (g .pages) (now (flash .entry)) ⌝ }
+    ensures { λ _. ⌜ (now (part .exit) ≡ emptiedPages g t (g .pages) (now (part .entry))) × (now (flash .exit) ≡ written g t (now (part .entry)) (g .pages) (now (flash .entry))) ⌝ }
 {
     let n = words::u32_at(part, 0) + 1;
     let j = partition::slot_of(g, n);
@@ -71,6 +74,7 @@ fn write_batch(part: &[u8], flash: &mut [u8], g: Geometry, t: u32)
         let at = geometry::slot_page_at(g, t, j, q);
         let from = geometry::buffer_at(g, q);
         page::copy_numbered(flash, at, part, from, size, n);
+        partition::empty_page(part, g, t, q);
         q += 1;
     }
 }
@@ -95,23 +99,10 @@ pub fn apply(part: &mut [u8], flash: &mut [u8], g: Geometry, t: u32)
     let head = Head::read(part);
     let flushes = head.flushes;
     let listed = head.listed;
-    write_batch(part, flash, g, t);
     filter::make(part, g, partition::slot_of(g, flushes + 1));
     let stay = expire(part, g, flushes, listed);
-    partition::empty_pages(part, g, t);
+    move_batch(part, flash, g, t);
     head::put_back(part, head.flushed().unlisted(listed - stay as u32));
-}
-
-// 12, 15, 16, for partition t of memory.
-fn decide_at(memory: &[u8], g: Geometry, t: u32) -> Verdict
-    requires { ⌜ allowed g ≡ true ⌝ }
-    requires { ⌜ t < partitions g ⌝ }
-    requires { ⌜ memoryNeed g ≤ length (now memory) ⌝ }
-    ensures { λ r. ⌜ refusal r ≡ flushChecks g t (partition g t (now (memory .entry))) ⌝ }
-{
-    let a = geometry::partition_at(g, t);
-    let e = a + geometry::partition_size(g);
-    decide(&memory[a..e], g, t)
 }
 
 // Both areas after the flush of partition t.
@@ -138,7 +129,7 @@ pub fn call(memory: &mut [u8], flash: &mut [u8], g: Geometry, t: u32) -> Written
             reads: 0,
         });
     }
-    match decide_at(memory, g, t) {
+    match decide(partition::part_of(memory, g, t), g, t) {
         Verdict::Refused(number) => Written::Refused(Refusal { number, reads: 0 }),
         Verdict::Accepted => {
             apply_at(memory, flash, g, t);

@@ -5,7 +5,6 @@ ghost use Prim.Native.Nat.{_≤_, _<_};
 ghost use lib.ListN.{length};
 ghost use Rattle.model.specs.Geometry.{allowed, partitions, memoryNeed};
 ghost use Rattle.model.specs.Opening.{withOpening};
-ghost use Rattle.model.specs.Answers.{Areas};
 ghost use Rattle.model.specs.Format.{formatChecks, emptiedPartitions, formatted};
 ghost use Rattle.model.specs.Calls.{Call};
 ghost use Rattle.partition.specs.Ready.{refusal};

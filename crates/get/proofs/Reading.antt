@@ -21,6 +21,8 @@ use Rattle.model.specs.Get.{batchPage, hitIn, readThrough}
 use Rattle.model.proofs.Searching.{first-here, first-next, first-end}
 use Rattle.model.proofs.Sizes.{sizes, slot-lt, partition-of-lt, page-of-lt, slot-page-fits, flash-max}
 use Rattle.model.proofs.Words.{word-mid}
+use Rattle.records.specs.Lacking.{Lacking}
+use Rattle.records.proofs.Blocks.{first-behind}
 
 first-of : (a b : Bool) → (a && b) ≡ true → a ≡ true
 first-of true b h = refl
@@ -64,6 +66,14 @@ module _ (at size : ℕ) (f : List ℕ) (k reads : ℕ) (place : Place) (later :
   entry-next i l h e =
       let e′ = ne-eqb (keyAt (mid at size f) i) k (λ z. e (sym (word-mid 8 f at size (16 * i) h) ∙ z)) in
       rw (first-next (λ r. eqb (keyAt (mid at size f) r) k) end i l e′)
+
+  -- the entries that are passed over lack the key
+  pub entry-behind : (n r : ℕ) → end ≡ n + 1 → 16 + 16 * n ≤ size → Lacking k (at + 16) f n r → fromEntry at size f k reads place later end 1 ≡ fromEntry at size f k reads place later end (1 + r)
+  unfolding fromEntry
+  entry-behind n r e fits h =
+      let d : end - 1 - r ≡ end - (1 + r) = omega arith in
+      let lack : (j : ℕ) → j < r → eqb (keyAt (mid at size f) (1 + j)) k ≡ false = λ j l. (let a : at + 16 * (1 + j) ≡ at + 16 + 16 * j = omega arith in rw (word-mid 8 f at size (16 * (1 + j)) (omega (arith, h .within)), a) (h .lack j l)) in
+      rw (first-behind (λ i. eqb (keyAt (mid at size f) i) k) (end - 1) 1 r lack (omega (arith, h .within)), d)
 
   pub entry-end : (i : ℕ) → end ≤ i → fromEntry at size f k reads place later end i ≡ later
   unfolding fromEntry

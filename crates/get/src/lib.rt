@@ -5,13 +5,10 @@ ghost use mathlib.Core.Path.{_≡_};
 ghost use Prim.Native.Nat.{_+_, _*_, _≤_, _<_};
 ghost use lib.ListN.{length};
 ghost use Rattle.model.specs.Bytes.{mid};
-ghost use Rattle.model.specs.Search.{isSome};
-ghost use Rattle.model.specs.Geometry.{allowed, partitions, memoryNeed, flashNeed};
-ghost use Rattle.model.specs.Keys.{partitionOf, pageOf};
-ghost use Rattle.model.specs.Records.{keyAt};
-ghost use Rattle.model.specs.Page.{countOf, valueAt, expected};
+ghost use Rattle.model.specs.Geometry.{allowed, flashNeed};
+ghost use Rattle.model.specs.Page.{valueAt, expected};
 ghost use Rattle.model.specs.Partition.{partition, bufferOf, passing};
-ghost use Rattle.model.specs.Get.{keyChecks, readThrough, soughtIn, sought};
+ghost use Rattle.model.specs.Get.{readThrough, soughtIn, sought};
 ghost use Rattle.model.specs.Calls.{Call};
 ghost use Rattle.answers.specs.Told.{answered};
 ghost use Rattle.answers.specs.Performs.{Performs};
@@ -44,24 +41,25 @@ pub fn read_through(part: &[u8], flash: &[u8], g: Geometry, key: u64) -> Answer
     let t = geometry::partition_of(g, key);
     let q = geometry::page_of(g, key);
     let mut answer = Answer::Missing(0);
-    let mut next = words::u32_at(part, 0);
     let mut left = partition::live_count(part, g);
+    let mut next = words::u32_at(part, 0);
+    let mut slot = next % g.kept;
     let mut reads: u32 = 0;
     'batches: while 0 < left {
         let n = next;
-        let j = partition::slot_of(g, n);
+        slot = partition::slot_before(g, slot);
         next -= 1;
         left -= 1;
-        if !filter::has(part, geometry::filter_at(g, j), g, x) {
+        if !filter::has(part, geometry::filter_at(g, slot), g, x) {
             continue 'batches;
         }
         reads += 1;
-        let at = geometry::slot_page_at(g, t, j, q);
+        let at = geometry::slot_page_at(g, t, slot, q);
         if !is_expected_at(flash, at, g, t, n, q) {
             return Answer::Refused(Refusal { number: 13, reads });
         }
         let count = words::u16_at(flash, at) as usize;
-        let mut i = 1;
+        let mut i = 1 + records::skip(flash, at + 16, key, count);
         while i <= count {
             if words::u64_at(flash, at + 16 * i) == key {
                 let value = words::u64_at(flash, at + 16 * i + 8);
@@ -110,17 +108,6 @@ fn search_both(part: &[u8], flash: &[u8], g: Geometry, key: u64) -> Answer
     }
 }
 
-// 12: does the list or the key's buffer page count more than it holds?
-pub fn is_stopped(part: &[u8], g: Geometry, key: u64) -> bool
-    requires { ⌜ Whole g (now part) ⌝ }
-    ensures { λ r. ⌜ r ≡ isSome (keyChecks g key (now (part .entry)) none) ⌝ }
-{
-    if partition::is_list_overfull(part, g) {
-        return true;
-    }
-    partition::is_page_overfull(part, g, geometry::page_of(g, key))
-}
-
 // The whole lookup: none for a listed key.
 pub fn lookup(part: &[u8], flash: &[u8], g: Geometry, key: u64) -> Answer
     requires { ⌜ Whole g (now part) ⌝ }
@@ -134,39 +121,17 @@ pub fn lookup(part: &[u8], flash: &[u8], g: Geometry, key: u64) -> Answer
     }
 }
 
-// The part of memory with the key's partition.
-fn is_stopped_at(memory: &[u8], g: Geometry, key: u64) -> bool
-    requires { ⌜ allowed g ≡ true ⌝ }
-    requires { ⌜ memoryNeed g ≤ length (now memory) ⌝ }
-    ensures { λ r. ⌜ r ≡ isSome (keyChecks g key (partition g (partitionOf g key) (now (memory .entry))) none) ⌝ }
-{
-    let a = geometry::partition_at(g, geometry::partition_of(g, key));
-    let e = a + geometry::partition_size(g);
-    is_stopped(&memory[a..e], g, key)
-}
-
-fn lookup_at(memory: &[u8], flash: &[u8], g: Geometry, key: u64) -> Answer
-    requires { ⌜ allowed g ≡ true ⌝ }
-    requires { ⌜ memoryNeed g ≤ length (now memory) ⌝ }
-    requires { ⌜ Countable g key (partition g (partitionOf g key) (now memory)) ⌝ }
-    requires { ⌜ flashNeed g ≤ length (now flash) ⌝ }
-    ensures { λ r. ⌜ answered r ≡ sought g key (partition g (partitionOf g key) (now (memory .entry))) (now (flash .entry)) ⌝ }
-{
-    let a = geometry::partition_at(g, geometry::partition_of(g, key));
-    let e = a + geometry::partition_size(g);
-    lookup(&memory[a..e], flash, g, key)
-}
-
 // 12, then the lookup.
 pub fn call(memory: &[u8], flash: &[u8], g: Geometry, key: u64) -> Answer
     requires { ⌜ IsTable g (now memory) (now flash) ⌝ }
     ensures { λ r. ⌜ Performs (Call.get key) (now (memory .entry)) (now (flash .entry)) (answered r) (now (memory .entry)) (now (flash .entry)) ⌝ }
 {
-    if is_stopped_at(memory, g, key) {
+    let part = partition::part_of_key(memory, g, key);
+    if partition::is_overfull(part, g, key) {
         return Answer::Refused(Refusal {
             number: 12,
             reads: 0,
         });
     }
-    lookup_at(memory, flash, g, key)
+    lookup(part, flash, g, key)
 }

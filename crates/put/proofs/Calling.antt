@@ -2,26 +2,24 @@
 use Prim.Native.Nat.{ℕ, _+_, _≤_, _<_, _^_}
 use mathlib.Core.Bool.{Bool, true, cond}
 use mathlib.Core.List.{List}
-use mathlib.Core.Option.{none}
-use mathlib.Core.Path.{_≡_, refl, sym, _∙_, ap}
+use mathlib.Core.Path.{_≡_, sym, _∙_, ap}
 use native.Mathlib.Omega.{arith}
-use lib.ListN.{length, getD, take}
-use lib.Seq.{sets}
+use lib.ListN.{length, getD}
 use Rattle.model.specs.declared.Geometry.{Geometry}
 use Rattle.model.specs.Answers.{done, refused}
-use Rattle.model.specs.Bytes.{mid, within, word}
+use Rattle.model.specs.Bytes.{within}
 use Rattle.model.specs.Calls.{Call}
 use Rattle.model.specs.Flush.{flushed, written}
 use Rattle.model.specs.Geometry.{allowed, stride, partitionAt}
 use Rattle.model.specs.Keys.{partitionOf, pageOf}
 use Rattle.model.specs.Page.{countOf}
 use Rattle.model.specs.Partition.{flushesOf, listedOf, listOf, bufferOf, partition}
-use Rattle.model.specs.Put.{due, unlisted, buffered, putIn}
+use Rattle.model.specs.Put.{unlisted, buffered, putIn}
 use Rattle.model.specs.Refusals.{lastFlush}
 use Rattle.model.proofs.Entries.{count-emptied}
 use Rattle.model.proofs.Lengths.{length-buffered, length-flushed, length-unlisted}
 use Rattle.model.proofs.ListEntries.{unexpired-le}
-use Rattle.model.proofs.Parts.{length-mid, mid-within, within-sets, within-twice}
+use Rattle.model.proofs.Parts.{length-mid, mid-within, within-twice, within-same}
 use Rattle.model.proofs.PartitionsCalls.{laid-flushed, put-kept, put-flushed}
 use Rattle.model.proofs.Sizes.{sizes, partition-fits, partition-of-lt, page-of-lt, buffer-behind-list, buffer-fits}
 use Rattle.model.proofs.Words.{word-lt, word-mid}
@@ -30,14 +28,9 @@ use Rattle.answers.proofs.Performing.{refusing, doing}
 use Rattle.opening.specs.Opened.{IsTable}
 use Rattle.opening.proofs.Tables.{checks-put, result-put, effect-put}
 use Rattle.partition.specs.Ready.{Storable, Flushable}
-use Rattle.put.specs.declared.Plan.{Plan}
 use Rattle.put.specs.declared.Plan.the-variants.{Refused, Store, Flush}
 use Rattle.put.specs.Plans.{planFor}
 use Rattle.put.proofs.Planning.{plan-refused, plan-store, plan-flush, flushable}
-
--- what is done to a part is what matters there alone
-within-same : (a n : ℕ) (f h : List ℕ → List ℕ) (xs : List ℕ) → f (mid a n xs) ≡ h (mid a n xs) → within a n f xs ≡ within a n h xs
-within-same a n f h xs e = within-sets a n f xs ∙ ap (λ (ys : List ℕ). sets xs a (take n ys)) e ∙ sym (within-sets a n h xs)
 
 -- a flush empties the key's page
 flushed-storable : (g : Geometry) → allowed g ≡ true → (t k : ℕ) (p : List ℕ) → length p ≡ stride g → Flushable g t p → Storable g k (flushed g t p)

@@ -1,6 +1,6 @@
 -- Which plan each outcome of the tests gives, and what a plan shows.
 use Prim.Native.Nat.{ℕ, _≤_, _<_}
-use mathlib.Core.Bool.{Bool, true, false, not, _&&_}
+use mathlib.Core.Bool.{Bool, true, false, _&&_}
 use mathlib.Core.List.{List}
 use mathlib.Core.Option.{Option, none, some}
 use mathlib.Core.Path.{_≡_, refl}
@@ -10,45 +10,39 @@ use borrow.Author.Tests.{eq-eqb, ne-eqb, ltb-false, eqb-false}
 use Rattle.model.specs.declared.Geometry.{Geometry}
 use Rattle.model.specs.Geometry.{capacity, partitions}
 use Rattle.model.specs.Keys.{pageOf}
-use Rattle.model.specs.Page.{countOf, searched}
+use Rattle.model.specs.Page.{countOf}
 use Rattle.model.specs.Partition.{flushesOf, bufferOf}
 use Rattle.model.specs.Refusals.{listOverfull, pageOverfull, somePageOverfull, lastFlush}
 use Rattle.model.specs.Put.{due, putChecks}
-use Rattle.partition.specs.Ready.{Storable, Flushable}
-use Rattle.partition.proofs.Checks.{unrefused, pages-fit}
-use Rattle.put.specs.declared.Plan.{Plan}
+use Rattle.partition.specs.Ready.{Storable, Flushable, overfull}
+use Rattle.partition.proofs.Checks.{unrefused, overfull-checks, both-fit, pages-fit}
 use Rattle.put.specs.declared.Plan.the-variants.{Refused, Store, Flush}
 use Rattle.put.specs.Plans.{planWith, planFor}
 
 -- ---- from the tests to the plan
 module _ (g : Geometry) (k : ℕ) (p : List ℕ) where
-  pub list-over : listOverfull g p ≡ true → planFor g k p ≡ Refused 12
+  pub over : overfull g k p ≡ true → planFor g k p ≡ Refused 12
   unfolding planFor putChecks
-  list-over a = simp a
+  over h = rw (← overfull-checks g k p _, h)
 
-  module _ (a : listOverfull g p ≡ false) where
-    pub page-over : pageOverfull g p (pageOf g k) ≡ true → planFor g k p ≡ Refused 12
+  module _ (h : overfull g k p ≡ false) where
+    pub not-due : due g k p ≡ false → planFor g k p ≡ Store
     unfolding planFor putChecks
-    page-over b = simp (a, b)
+    not-due d = let w = both-fit g k p h in simp (w .0, w .1, d)
 
-    module _ (b : pageOverfull g p (pageOf g k) ≡ false) where
-      pub not-due : due g k p ≡ false → planFor g k p ≡ Store
+    module _ (d : due g k p ≡ true) where
+      pub some-over : somePageOverfull g p ≡ true → planFor g k p ≡ Refused 12
       unfolding planFor putChecks
-      not-due d = simp (a, b, d)
+      some-over e = let w = both-fit g k p h in simp (w .0, w .1, d, e)
 
-      module _ (d : due g k p ≡ true) where
-        pub some-over : somePageOverfull g p ≡ true → planFor g k p ≡ Refused 12
+      module _ (e : somePageOverfull g p ≡ false) where
+        pub last-used : flushesOf p ≡ lastFlush → planFor g k p ≡ Refused 16
         unfolding planFor putChecks
-        some-over e = simp (a, b, d, e)
+        last-used f = let w = both-fit g k p h in simp (w .0, w .1, d, e, eq-eqb (flushesOf p) lastFlush f)
 
-        module _ (e : somePageOverfull g p ≡ false) where
-          pub last-used : flushesOf p ≡ lastFlush → planFor g k p ≡ Refused 16
-          unfolding planFor putChecks
-          last-used f = simp (a, b, d, e, eq-eqb (flushesOf p) lastFlush f)
-
-          pub flush-first : (flushesOf p ≡ lastFlush → ⊥) → planFor g k p ≡ Flush
-          unfolding planFor putChecks
-          flush-first f = simp (a, b, d, e, ne-eqb (flushesOf p) lastFlush f)
+        pub flush-first : (flushesOf p ≡ lastFlush → ⊥) → planFor g k p ≡ Flush
+        unfolding planFor putChecks
+        flush-first f = let w = both-fit g k p h in simp (w .0, w .1, d, e, ne-eqb (flushesOf p) lastFlush f)
 
 -- ---- from the plan to what the calls need
 with-refused : (o : Option ℕ) (b : Bool) (n : ℕ) → planWith o b ≡ Refused n → o ≡ some n

@@ -28,16 +28,19 @@ pub enum Plan {
     Flush,
 }
 
-// Is the key new to its page, and the page full?
+// Is the key new to its page, and the page full? Most are not full, and only a full one is searched.
 fn is_due(part: &[u8], g: Geometry, key: u64) -> bool
     requires { ⌜ Whole g (now part) ⌝ }
     requires { ⌜ Countable g key (now part) ⌝ }
     ensures { λ r. ⌜ r ≡ due g key (now (part .entry)) ⌝ }
 {
     let q = geometry::page_of(g, key);
+    if partition::buffer_count(part, g, q) != geometry::page_capacity(g) {
+        return false;
+    }
     match partition::find_buffered(part, g, q, key) {
         Found::At(_) => false,
-        Found::Nothing => partition::buffer_count(part, g, q) == geometry::page_capacity(g),
+        Found::Nothing => true,
     }
 }
 
@@ -46,19 +49,17 @@ pub fn decide(part: &[u8], g: Geometry, key: u64) -> Plan
     requires { ⌜ Whole g (now part) ⌝ }
     ensures { λ r. ⌜ r ≡ planFor g key (now (part .entry)) ⌝ }
 {
-    if partition::is_list_overfull(part, g) {
-        return Plan::Refused(12);
-    }
-    if partition::is_page_overfull(part, g, geometry::page_of(g, key)) {
+    if partition::is_overfull(part, g, key) {
         return Plan::Refused(12);
     }
     if !is_due(part, g, key) {
         return Plan::Store;
     }
+    let flushes = words::u32_at(part, 0);
     if partition::is_some_page_overfull(part, g) {
         return Plan::Refused(12);
     }
-    if words::u32_at(part, 0) == 4294967295 {
+    if flushes == 4294967295 {
         return Plan::Refused(16);
     }
     Plan::Flush
@@ -112,17 +113,6 @@ pub fn apply(part: &mut [u8], g: Geometry, key: u64, value: u64)
     unlist(part, g, key);
 }
 
-// The plan for the key's partition.
-fn decide_at(memory: &[u8], g: Geometry, key: u64) -> Plan
-    requires { ⌜ allowed g ≡ true ⌝ }
-    requires { ⌜ memoryNeed g ≤ length (now memory) ⌝ }
-    ensures { λ r. ⌜ r ≡ planFor g key (partition g (partitionOf g key) (now (memory .entry))) ⌝ }
-{
-    let a = geometry::partition_at(g, geometry::partition_of(g, key));
-    let e = a + geometry::partition_size(g);
-    decide(&memory[a..e], g, key)
-}
-
 // In the key's partition: the value stored, the key unlisted.
 fn apply_at(memory: &mut [u8], g: Geometry, key: u64, value: u64)
     requires { ⌜ allowed g ≡ true ⌝ }
@@ -140,7 +130,7 @@ pub fn call(memory: &mut [u8], flash: &mut [u8], g: Geometry, key: u64, value: u
     requires { ⌜ IsTable g (now memory) (now flash) ⌝ }
     ensures { λ r. ⌜ Performs (Call.put key value) (now (memory .entry)) (now (flash .entry)) (written r) (now (memory .exit)) (now (flash .exit)) ⌝ }
 {
-    match decide_at(memory, g, key) {
+    match decide(partition::part_of_key(memory, g, key), g, key) {
         Plan::Refused(number) => Written::Refused(Refusal { number, reads: 0 }),
         Plan::Store => {
             apply_at(memory, g, key, value);

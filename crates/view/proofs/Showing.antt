@@ -9,21 +9,16 @@ use lib.Dec.{eqb}
 use lib.ListN.{length}
 use borrow.Author.Tests.{lt-ltb, le-ltb}
 use Rattle.model.specs.declared.Geometry.{Geometry}
-use Rattle.model.specs.Geometry.{allowed, partitions, stride, partitionAt, bufferAt, memoryNeed, slotPageAt, flashNeed}
+use Rattle.model.specs.Geometry.{allowed, partitions, memoryNeed, slotPageAt, flashNeed}
 use Rattle.model.specs.Page.{expected}
 use Rattle.model.specs.Partition.{slot}
 use Rattle.model.specs.Answers.{Answer, done, found, absent, shown, refused, inMemory, inFlash}
 use Rattle.model.specs.Get.{batchPage}
 use Rattle.model.specs.View.{viewChecks, pageShown, viewed}
-use Rattle.model.proofs.Sizes.{partition-fits, memory-max, buffer-fits, slot-lt, slot-page-fits}
+use Rattle.model.proofs.Sizes.{partition-fits, buffer-fits, slot-lt, slot-page-fits}
 use Rattle.answers.specs.declared.Viewed.{Viewed}
 use Rattle.answers.specs.Told as told
 use Rattle.answers.specs.Performs.{Inside}
-
-pub partition-within : (g : Geometry) (t : ℕ) → allowed g ≡ true → t < partitions g → let e = partitionAt g t + stride g in (e ≤ memoryNeed g) × (e ≤ 138416160)
-partition-within g t ok l =
-    let h = partition-fits g t l in
-    (h, omega (arith, memory-max g ok))
 
 module _ (g : Geometry) (t q n : ℕ) (p : List ℕ) where
   pub no-partition : partitions g ≤ t → viewChecks g t q n p ≡ some 4

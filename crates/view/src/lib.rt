@@ -3,9 +3,8 @@ ghost use mathlib.Core.Bool.{true, false};
 ghost use mathlib.Core.Path.{_≡_};
 ghost use Prim.Native.Nat.{_≤_, _<_};
 ghost use lib.ListN.{length};
-ghost use Rattle.model.specs.Geometry.{allowed, partitions, memoryNeed, flashNeed};
+ghost use Rattle.model.specs.Geometry.{allowed, partitions, flashNeed};
 ghost use Rattle.model.specs.Partition.{partition, isLive};
-ghost use Rattle.model.specs.Get.{batchPage};
 ghost use Rattle.model.specs.View.{viewChecks, pageShown, viewed};
 ghost use Rattle.model.specs.Calls.{Call};
 ghost use Rattle.answers.specs.Told as told;
@@ -88,19 +87,6 @@ pub fn place(flash: &[u8], g: Geometry, t: u32, q: u32, n: u32) -> Viewed
     place_in_flash(flash, g, t, q, n)
 }
 
-// The part of memory with partition t.
-fn decide_at(memory: &[u8], g: Geometry, t: u32, q: u32, n: u32) -> Verdict
-    requires { ⌜ allowed g ≡ true ⌝ }
-    requires { ⌜ memoryNeed g ≤ length (now memory) ⌝ }
-    requires { ⌜ t < partitions g ⌝ }
-    requires { ⌜ q < g .pages ⌝ }
-    ensures { λ r. ⌜ refusal r ≡ viewChecks g t q n (partition g t (now (memory .entry))) ⌝ }
-{
-    let a = geometry::partition_at(g, t);
-    let e = a + geometry::partition_size(g);
-    decide(&memory[a..e], g, t, q, n)
-}
-
 // 4, then as the partition decides.
 pub fn call(memory: &[u8], flash: &[u8], g: Geometry, t: u32, q: u32, n: u32) -> Viewed
     requires { ⌜ IsTable g (now memory) (now flash) ⌝ }
@@ -119,7 +105,7 @@ pub fn call(memory: &[u8], flash: &[u8], g: Geometry, t: u32, q: u32, n: u32) ->
             reads: 0,
         });
     }
-    match decide_at(memory, g, t, q, n) {
+    match decide(partition::part_of(memory, g, t), g, t, q, n) {
         Verdict::Refused(number) => Viewed::Refused(Refusal { number, reads: 0 }),
         Verdict::Accepted => place(flash, g, t, q, n),
     }

@@ -1,5 +1,5 @@
 -- The search through the filters gives the stamp, and the head's count tells whether a place is left.
-use mathlib.Core.Path.{_≡_, sym, _∙_, ap}
+use mathlib.Core.Path.{sym, _∙_, ap}
 use Rattle.partition.proofs.Inside.{list-inside}
 use Rattle.del.specs.Plans.{stamp}
 use Rattle.del.proofs.Planning.{nowhere, no-place, a-place}

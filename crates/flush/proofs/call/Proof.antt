@@ -12,6 +12,7 @@ use Rattle.answers.specs.Performs.{areas}
 use Rattle.answers.proofs.Performing.{refusing, doing}
 use Rattle.opening.proofs.Tables.{checks-flush, result-flush, effect-flush}
 use Rattle.partition.specs.Ready.{refusal}
+use Rattle.partition.proofs.Lending.{partition-whole}
 use Rattle.flush.proofs.Flushing.{not-below, flushable, flushes-small}
 use Rattle.flush.proofs.call.Statement.{statement}
 use Rattle.flush.proofs.call.Tie as tie
@@ -22,28 +23,36 @@ returns c =
     let a = s .args in
     refusing (Call.flush (a .t)) (a .memory .now) (a .flash .now) 4 (checks-flush (a .g) (a .memory .now) (a .flash .now) (s .pre) (a .t) ∙ not-below (a .g) (a .t) _ (omega (arith, c .if1 .taken, c .before .partition-count .ensures)))
 
+below : (c : tie.Else1) → c .before .before .before .before .args .t < partitions (c .before .before .before .before .args .g)
+below c = omega (arith, c .if1 .left, c .before .partition-count .ensures)
+
+decide-requires : tie.Need-decide-requires
+decide-requires c κs = let s = c .before .before .before .before .before .before in rw (c .part-of .ensures) (partition-whole _ _ (s .pre .fine) (s .pre .memoryFits) _ (below (c .before .before)), below (c .before .before))
+
+-- the checks are those of the partition
+decided : (c : tie.After-decide) → let a = c .before .before .before .before .before .before .before .args in flushChecks (a .g) (a .t) (partition (a .g) (a .t) (a .memory .now)) ≡ refusal (c .decide .result)
+decided c = let a = c .before .before .before .before .before .before .before .args in sym (c .decide .ensures ∙ ap (flushChecks (a .g) (a .t)) (c .before .part-of .ensures))
+
 -- the accepted flush
-accepted : (c : tie.After-enum-told) → let a = c .before .before .before .before .before .before .before .before .args in flushChecks (a .g) (a .t) (partition (a .g) (a .t) (a .memory .now)) ≡ none
-accepted c = sym (c .before .before .decide-at .ensures) ∙ ap refusal (c .enum-told .given .1)
+accepted : (c : tie.After-enum-told) → let a = c .before .before .before .before .before .before .before .before .before .args in flushChecks (a .g) (a .t) (partition (a .g) (a .t) (a .memory .now)) ≡ none
+accepted c = decided (c .before .before) ∙ ap refusal (c .enum-told .given .1)
 
 apply-at-requires : tie.Need-apply-at-requires
 apply-at-requires c κs =
-    let b = c .before .before in
-    let s = c .before .before .before .before .before .before .before .before .before .before in
+    let s = c .before .before .before .before .before .before .before .before .before .before .before in
     let a = s .args in
-    let below : a .t < partitions (a .g) = omega (arith, c .before .before .before .before .before .before .if1 .left, c .before .before .before .before .before .before .before .partition-count .ensures) in
-    let small = flushes-small (a .g) (a .t) (a .memory .now) (λ i. omega (arith, c .before .before .before .before .before .before .before .before .before .slice-known .given i)) in
-    (s .pre .fine, (s .pre .memoryFits, (flushable (a .g) (a .t) _ (accepted b) small below, s .pre .flashFits)))
+    let small = flushes-small (a .g) (a .t) (a .memory .now) (λ i. omega (arith, c .before .before .before .before .before .before .before .before .before .before .slice-known .given i)) in
+    (s .pre .fine, (s .pre .memoryFits, (flushable (a .g) (a .t) _ (accepted (c .before .before)) small (below (c .before .before .before .before .before .before .before)), s .pre .flashFits)))
 
 returns-2 : tie.Need-returns-2
 returns-2 c =
-    let s = c .before .before .before .before .before .before .before .before .before in
+    let s = c .before .before .before .before .before .before .before .before .before .before in
     let a = s .args in
-    refusing (Call.flush (a .t)) (a .memory .now) (a .flash .now) _ (checks-flush (a .g) (a .memory .now) (a .flash .now) (s .pre) (a .t) ∙ sym (c .before .before .before .decide-at .ensures) ∙ ap refusal (c .before .number .given .1))
+    refusing (Call.flush (a .t)) (a .memory .now) (a .flash .now) _ (checks-flush (a .g) (a .memory .now) (a .flash .now) (s .pre) (a .t) ∙ decided (c .before .before .before) ∙ ap refusal (c .before .number .given .1))
 
 returns-3 : tie.Need-returns-3
 returns-3 c =
-    let s = c .before .before .before .before .before .before .before .before .before .before .before .before .before .before .before in
+    let s = c .before .before .before .before .before .before .before .before .before .before .before .before .before .before .before .before in
     let a = s .args in
     let m = a .memory .now in
     let f = a .flash .now in
@@ -54,4 +63,4 @@ returns-3 c =
     (effect-flush (a .g) m f (s .pre) (a .t) ∙ sym (ap₂ areas (r .0) (r .1)))
 
 pub call-spec : {M : Type 1} → statement M
-call-spec = tie.close (tie.spec (λ c κs. search needs) returns (λ c κs. search needs) (λ c. search needs) (λ c. search needs) apply-at-requires (λ c. search needs) returns-2 (λ c. search needs) (λ c. search needs) returns-3)
+call-spec = tie.close (tie.spec (λ c κs. search needs) returns (λ c κs. search needs) decide-requires (λ c. search needs) (λ c. search needs) apply-at-requires (λ c. search needs) returns-2 (λ c. search needs) (λ c. search needs) returns-3)

@@ -8,11 +8,11 @@ use mathlib.Core.Path.{_≡_, refl, _∙_, ap}
 use native.Mathlib.Numerals.{add-one}
 use lib.ListN.{length}
 use Rattle.model.specs.Bytes.{within}
-use Rattle.model.specs.Geometry.{partitions}
+use Rattle.model.specs.Geometry.{partitions, stride, partitionAt}
 use Rattle.model.specs.Format.{emptiedPages, emptiedPartitions}
-use Rattle.model.proofs.Parts.{lent, length-lent, length-within}
+use Rattle.model.proofs.Parts.{length-within}
 use Rattle.model.proofs.Lengths.{length-emptiedPages}
-use Rattle.model.proofs.Sizes.{partition-fits}
+use Rattle.partition.proofs.Lending.{Lent, lends}
 
 abbrev Inv-loop : tie.InvT-loop
 Inv-loop memory₀ g count size t₀ memory t = (t ≤ count) × (length memory ≡ length memory₀) × (memory ≡ emptiedPartitions g t memory₀)
@@ -30,34 +30,25 @@ below c = omega (arith, c .loop-test .taken, c .before .before .before .partitio
 partition-at-requires : tie.Need-partition-at-requires Inv-loop μ-loop
 partition-at-requires c κs = (c .before .before .before .before .before .pre .0, omega (arith, below c))
 
--- the partition lies inside the memory
-fits : (c : tie.After-partition-at Inv-loop μ-loop) → c .partition-at .result + c .before .before .before .partition-size .result ≤ length (c .before .before .loop .memory)
-fits c =
+lent : (c : tie.After-partition-at Inv-loop μ-loop) → let l = c .before .before .loop in Lent (c .before .before .before .before .before .before .args .g) (l .t) (l .memory) (c .partition-at .result) (c .before .before .before .partition-size .result)
+lent c =
     let s = c .before .before .before .before .before .before in
-    omega (arith, partition-fits (s .args .g) _ (below (c .before)), c .partition-at .ensures, c .before .before .before .partition-size .ensures, c .before .before .loop .inv .1, s .pre .1)
-
-add-e : tie.Need-add-e Inv-loop μ-loop
-add-e c = omega (arith, fits c)
-
-part-empty-pages-end : tie.Need-part-empty-pages-end Inv-loop μ-loop
-part-empty-pages-end c = omega (arith, fits c)
+    let l = c .before .before .loop in
+    lends _ _ (s .pre .0) (omega (arith, l .inv .1, s .pre .1)) _ (below (c .before)) _ _ (c .partition-at .ensures) (c .before .before .before .partition-size .ensures)
 
 empty-pages-requires : tie.Need-empty-pages-requires Inv-loop μ-loop
-empty-pages-requires c κs =
-    let b = c .before in
-    (record { fine = b .before .before .before .before .before .before .pre .0; long = length-lent _ _ _ (fits b) ∙ b .before .before .before .partition-size .ensures }, omega (arith, below (b .before)))
+empty-pages-requires c κs = (lent (c .before) .whole, omega (arith, below (c .before .before)))
 
 loop-again : tie.Need-loop-again Inv-loop μ-loop
 unfolding emptiedPartitions
 loop-again c =
     let b = c .before .before .before .before in
-    let s = b .before .before .before in
-    let a = s .before .before .before .args in
-    let l = b .before .before .loop in
+    let a = c .before .before .before .before .before .before .before .before .before .before .args in
+    let l = c .before .before .before .before .before .before .loop in
     let f = emptiedPages (a .g) (l .t) (a .g .pages) in
-    let e = lent (b .partition-at .result) (s .partition-size .result) f (l .memory) _ (fits b) (length-emptiedPages (a .g) (l .t) (a .g .pages)) (c .before .before .empty-pages .ensures) in
-    let e′ : within (b .partition-at .result) (s .partition-size .result) f (l .memory) ≡ emptiedPartitions (a .g) (l .t + 1) (a .memory .now) = rw (b .partition-at .ensures, s .partition-size .ensures, l .inv .2, add-one (l .t)) in
-    (omega arith, ap length e ∙ length-within (b .partition-at .result) (s .partition-size .result) f (l .memory) ∙ l .inv .1, e ∙ e′)
+    let e = lent b .back f (length-emptiedPages (a .g) (l .t) (a .g .pages)) _ (c .before .before .empty-pages .ensures) in
+    let e′ : within (partitionAt (a .g) (l .t)) (stride (a .g)) f (l .memory) ≡ emptiedPartitions (a .g) (l .t + 1) (a .memory .now) = rw (l .inv .2, add-one (l .t)) in
+    (omega arith, ap length e ∙ length-within _ _ f (l .memory) ∙ l .inv .1, e ∙ e′)
 
 same-length : tie.Need-same-length Inv-loop μ-loop
 same-length c = c .before .loop .inv .1
@@ -69,4 +60,4 @@ returns c =
     c .before .loop .inv .2 ∙ ap (λ (n : ℕ). emptiedPartitions (a .g) n (a .memory .now)) e
 
 pub empty-partitions-spec : {M : Type 1} → statement M
-empty-partitions-spec = tie.close (tie.spec Inv-loop μ-loop (λ c κs. search needs) (λ c κs. search needs) loop-holds partition-at-requires add-e (λ c. omega arith) (λ c. omega arith) part-empty-pages-end empty-pages-requires (λ c. omega arith) (λ c. omega arith) loop-again same-length returns)
+empty-partitions-spec = tie.close (tie.spec Inv-loop μ-loop (λ c κs. search needs) (λ c κs. search needs) loop-holds partition-at-requires (λ c. omega (arith, lent c .inside)) (λ c. omega arith) (λ c. omega arith) (λ c. omega (arith, lent c .inside)) empty-pages-requires (λ c. omega arith) (λ c. omega arith) loop-again same-length returns)

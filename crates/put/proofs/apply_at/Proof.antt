@@ -1,55 +1,28 @@
 -- The key's partition is lent as a part of memory, and comes back with the key's value.
-use Prim.Native.Nat.{ℕ, _+_, _-_, _≤_, _<_}
-use mathlib.Core.List.{List}
-use mathlib.Core.Path.{_≡_, _∙_}
-use native.Mathlib.Nat.{add-sub-cancel-left}
+use mathlib.Core.Path.{_∙_}
 use native.Mathlib.Omega.{arith}
 use borrow.Author.Needs.{needs}
-use lib.ListN.{length}
-use Rattle.model.specs.Bytes.{mid}
-use Rattle.model.specs.Geometry.{partitions}
 use Rattle.model.specs.Keys.{partitionOf}
-use Rattle.model.specs.Partition.{partition}
 use Rattle.model.specs.Put.{unlisted, buffered}
 use Rattle.model.proofs.Lengths.{length-unlisted, length-buffered}
-use Rattle.model.proofs.Parts.{lent, length-lent}
-use Rattle.model.proofs.Sizes.{partition-fits, partition-of-lt}
+use Rattle.model.proofs.Sizes.{partition-of-lt}
+use Rattle.partition.proofs.Lending.{Lent, lends-key}
 use Rattle.put.proofs.apply_at.Statement.{statement}
 use Rattle.put.proofs.apply_at.Tie as tie
 
-below : (c : tie.After-partition-of) → c .partition-of .result < partitions (c .before .before .args .g)
-below c = rw (c .partition-of .ensures) (partition-of-lt _ (c .before .before .pre .0) (c .before .before .args .key) (omega arith))
-
--- the partition lies inside the memory
-fits : (c : tie.After-partition-size) → c .before .partition-at .result + c .partition-size .result ≤ length (c .before .before .before .before .args .memory .now)
-fits c = omega (arith, partition-fits (c .before .before .before .before .args .g) _ (below (c .before .before)), c .before .partition-at .ensures, c .partition-size .ensures, c .before .before .before .before .pre .1 .0)
-
--- and is the part that is lent
-is-partition : (c : tie.After-partition-size) → let a = c .before .before .before .before .args in let at = c .before .partition-at .result in mid at (at + c .partition-size .result - at) (a .memory .now) ≡ partition (a .g) (partitionOf (a .g) (a .key)) (a .memory .now)
-is-partition c = rw (add-sub-cancel-left, c .before .partition-at .ensures, c .before .before .partition-of .ensures, c .partition-size .ensures)
+lent : (c : tie.After-partition-size) → let a = c .before .before .before .before .args in Lent (a .g) (partitionOf (a .g) (a .key)) (a .memory .now) (c .before .partition-at .result) (c .partition-size .result)
+lent c = let s = c .before .before .before .before in lends-key _ _ (s .pre .0) (s .pre .1 .0) (s .args .key) (omega arith) _ _ _ (c .before .before .partition-of .ensures) (c .before .partition-at .ensures) (c .partition-size .ensures)
 
 partition-at-requires : tie.Need-partition-at-requires
-partition-at-requires c κs = (c .before .before .pre .0, omega (arith, below c))
-
-add-e : tie.Need-add-e
-add-e c = omega (arith, fits c)
-
-part-apply-end : tie.Need-part-apply-end
-part-apply-end c = omega (arith, fits c)
+partition-at-requires c κs = let s = c .before .before in (s .pre .0, omega (arith, c .partition-of .ensures, partition-of-lt _ (s .pre .0) (s .args .key) (omega arith)))
 
 apply-requires : tie.Need-apply-requires
-apply-requires c κs =
-    let b = c .before in
-    let s = c .before .before .before .before .before in
-    (record { fine = s .pre .0; long = length-lent _ _ _ (fits b) ∙ b .partition-size .ensures }, rw (is-partition b) (s .pre .1 .1))
+apply-requires c κs = let l = lent (c .before) in (l .whole, rw (l .own) (c .before .before .before .before .before .pre .1 .1))
 
 returns : tie.Need-returns
 returns c =
-    let b = c .before .before .before .before in
     let a = c .before .before .before .before .before .before .before .before .args in
-    let change : List ℕ → List ℕ = λ p. unlisted (a .g) (a .key) (buffered (a .g) (a .key) (a .value) p) in
-    lent (b .before .partition-at .result) (b .partition-size .result) change (a .memory .now) _ (fits b) (λ p. length-unlisted (a .g) (a .key) (buffered (a .g) (a .key) (a .value) p) ∙ length-buffered (a .g) (a .key) (a .value) p) (c .before .before .apply .ensures)
-    ∙ rw (b .before .partition-at .ensures, b .before .before .partition-of .ensures, b .partition-size .ensures)
+    lent (c .before .before .before .before) .back (λ p. unlisted (a .g) (a .key) (buffered (a .g) (a .key) (a .value) p)) (λ p. length-unlisted (a .g) (a .key) (buffered (a .g) (a .key) (a .value) p) ∙ length-buffered (a .g) (a .key) (a .value) p) _ (c .before .before .apply .ensures)
 
 pub apply-at-spec : {M : Type 1} → statement M
-apply-at-spec = tie.close (tie.spec (λ c κs. search needs) partition-at-requires (λ c κs. search needs) add-e (λ c. search needs) (λ c. search needs) part-apply-end apply-requires (λ c. search needs) returns)
+apply-at-spec = tie.close (tie.spec (λ c κs. search needs) partition-at-requires (λ c κs. search needs) (λ c. omega (arith, lent c .inside)) (λ c. search needs) (λ c. search needs) (λ c. omega (arith, lent c .inside)) apply-requires (λ c. search needs) returns)

@@ -1,7 +1,6 @@
 -- The arm that finds an entry does what the definition does for it; an entry that is found is one of the used places.
-use Prim.Native.Nat.{_<_, _≤_}
 use mathlib.Core.Option.{some}
-use mathlib.Core.Path.{_≡_, refl, sym, _∙_, ap}
+use mathlib.Core.Path.{_≡_, ap}
 use Rattle.model.specs.DeleteList.{listedAt}
 use Rattle.model.specs.Partition.{listedOf, listOf}
 use Rattle.model.specs.Put.{unlisted}

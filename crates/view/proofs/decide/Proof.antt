@@ -19,18 +19,18 @@ in-range : (g : Geometry) (t q n : ℕ) (p : List ℕ) → t < partitions g → 
 unfolding viewChecks
 in-range g t q n p l m = rw (lt-ltb t (partitions g) l, lt-ltb q (g .pages) m)
 
--- behind the first test: as the buffer page says, or as the batch does
-of-buffer : (c : tie.After-is-page-overfull) → let a = c .before .before .before .before .before .args in viewChecks (a .g) (a .t) (a .q) (a .n) (a .part .now) ≡ refuseIf (c .is-page-overfull .result) 12 none
-of-buffer c =
-    let e = c .before .before in
-    let p = e .before .before .before .pre in
-    in-range _ _ _ _ _ (p .1 .0) (p .1 .1) ∙ rw (sym (e .before .is-list-overfull .ensures) ∙ e .if1 .left, eq-eqb _ _ (c .before .if2 .taken), c .is-page-overfull .ensures)
-
+-- behind the first test: as the batch says, or as the buffer page does
 of-batch : (c : tie.After-is-live) → let a = c .before .before .before .before .before .args in viewChecks (a .g) (a .t) (a .q) (a .n) (a .part .now) ≡ refuseIf (not (c .is-live .result)) 17 none
 of-batch c =
     let e = c .before .before in
     let p = e .before .before .before .pre in
     in-range _ _ _ _ _ (p .1 .0) (p .1 .1) ∙ rw (sym (e .before .is-list-overfull .ensures) ∙ e .if1 .left, ne-eqb _ _ (c .before .if2 .left), c .is-live .ensures)
+
+of-buffer : (c : tie.After-is-page-overfull) → let a = c .before .before .before .before .before .args in viewChecks (a .g) (a .t) (a .q) (a .n) (a .part .now) ≡ refuseIf (c .is-page-overfull .result) 12 none
+of-buffer c =
+    let e = c .before .before in
+    let p = e .before .before .before .pre in
+    in-range _ _ _ _ _ (p .1 .0) (p .1 .1) ∙ rw (sym (e .before .is-list-overfull .ensures) ∙ e .if1 .left, eq-eqb _ _ (c .before .if2 .taken), c .is-page-overfull .ensures)
 
 returns : tie.Need-returns
 returns c = let p = c .before .before .before .pre in sym (in-range _ _ _ _ _ (p .1 .0) (p .1 .1) ∙ rw (sym (c .before .is-list-overfull .ensures) ∙ c .if1 .taken))
