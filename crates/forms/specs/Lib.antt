@@ -1,3 +1,0 @@
-pub mod Said
-pub mod Places
-pub mod Puts

@@ -1,0 +1,12 @@
+-- It is the definition's text of a refusal.
+use Rattle.model.specs.Session.{answerText}
+use borrow.Author.Needs.{needs}
+use Rattle.printer.proofs.write_refusal.Statement.{statement}
+use Rattle.printer.proofs.write_refusal.Tie as tie
+
+returns : tie.Need-returns
+unfolding answerText
+returns c = c .before .before .write-two .ensures
+
+pub write-refusal-spec : {M : Type 1} → statement M
+write-refusal-spec = tie.close (tie.spec (λ c. search needs) (λ c. search needs) (λ c. search needs) (λ c κs. search needs) (λ c. search needs) returns)

@@ -1,0 +1,17 @@
+-- The second number and the end are written as an answer of one number whose text is a space.
+use native.Mathlib.Omega.{arith}
+use Rattle.model.specs.Text.{text, decimal}
+use Rattle.printer.proofs.Decimals.{length-decimal}
+use Rattle.printer.proofs.Printing.{puts-append, puts-three}
+use borrow.Author.Needs.{needs}
+use Rattle.printer.proofs.write_two.Statement.{statement}
+use Rattle.printer.proofs.write_two.Tie as tie
+
+write-one-requires : tie.Need-write-one-requires
+write-one-requires c κs = omega (arith, length-decimal (c .before .before .before .before .before .before .before .before .before .before .before .before .args .a))
+
+returns : tie.Need-returns
+returns c = puts-three (text " ") (decimal (c .before .before .before .before .before .before .before .before .before .before .before .before .before .before .before .args .b)) (text ")\n") (puts-append (c .before .before .before .before .before .before .before .before .before .before .before .write-text .ensures) (c .before .before .before .before .before .before .before .write-decimal .ensures)) (c .before .before .write-one .ensures)
+
+pub write-two-spec : {M : Type 1} → statement M
+write-two-spec = tie.close (tie.spec (λ c κs. search needs) (λ c κs. search needs) (λ c. search needs) write-one-requires (λ c. search needs) returns)

@@ -1,0 +1,63 @@
+-- A form is read in steps, each over what the step before it left.
+use mathlib.Core.Path.{_≡_, refl, sym, _∙_, ap}
+use mathlib.Core.List.{List, [], _∷_}
+use mathlib.Core.Option.{Option, none, some}
+use Prim.Native.Nat.{ℕ, _≤_, _<_}
+use native.Mathlib.Omega.{arith}
+use types.Run.{OneOf, miss}
+use denote.Enum.Declared.{tagOf}
+use lib.ListN.{length, drop, drop-of-length-le}
+use lib.Seq.{drop-cons}
+use Rattle.model.specs.Text.{past, Figure, figure}
+use Rattle.model.specs.Calls.{Call}
+use Rattle.model.specs.Session.{then, orElse, atEnd}
+use Rattle.reader.specs.declared.Form.{Form}
+use Rattle.reader.specs.Said.{said}
+use Rattle.reader.proofs.Form.{the-type}
+use Rattle.reader.proofs.Reading.{figure-below}
+
+-- what a callee says of its result, once it is known which result that is
+pub known : {E A : Type 0} (f : E → A) {r s : E} {o : A} → f r ≡ o → r ≡ s → o ≡ f s
+known f e t = sym e ∙ ap f t
+
+-- and what the next step makes of that
+pub step : {E A B : Type 0} (f : E → Option A) (g : A → Option B) {r s : E} {o : Option A} → f r ≡ o → r ≡ s → then o g ≡ then (f s) g
+step f g e t = ap (λ o. then o g) (known f e t)
+
+-- where the callee says it of what the next step makes
+pub known-then : {E A B : Type 0} (f : E → Option A) (g : A → Option B) {r s : E} {o : Option B} → then (f r) g ≡ o → r ≡ s → o ≡ then (f s) g
+known-then f g e t = known (λ r. then (f r) g) e t
+
+-- a number that was read is below its limit
+pub read-below : (limit : ℕ) (t xs : List ℕ) (f : Figure) → then (past t xs) (figure limit) ≡ some f → f .value < limit
+read-below limit t xs f e = go (past t xs) e
+  where
+    go : (o : Option (List ℕ)) → then o (figure limit) ≡ some f → f .value < limit
+    go none e = let z : _≡_ {A = ℕ} 0 1 = cc in omega arith
+    go (some ys) e = figure-below limit ys f e
+
+-- ---- the end of a line, behind a fixed text that leaves p
+abbrev closing : Option Call → Option (List ℕ) → Option Call
+closing o p = then o (λ c. then p (atEnd c))
+
+pub end-lacks : (o : Option Call) (p : Option (List ℕ)) → p ≡ none → closing o p ≡ none
+end-lacks none p e = refl
+end-lacks (some c) p e = rw e
+
+module _ (line : List ℕ) (next : ℕ) where
+  pub end-follows : (o : Option Call) (p : Option (List ℕ)) → p ≡ some (drop next line) → next < length line → closing o p ≡ none
+  end-follows none p e l = refl
+  end-follows (some c) p e l = rw (e, drop-cons line next 0 l)
+
+  pub end-here : (o : Option Call) (p : Option (List ℕ)) → p ≡ some (drop next line) → length line ≤ next → closing o p ≡ o
+  end-here none p e l = refl
+  end-here (some c) p e l = rw (e, drop-of-length-le line l)
+
+-- ---- the first form that is not Bad
+pub first-said : (f : Form) {o : Option Call} (rest : Option Call) → said f ≡ o → OneOf (0 ∷ 1 ∷ 2 ∷ 3 ∷ 4 ∷ []) (tagOf the-type f) → said f ≡ orElse o rest
+first-said (Form.Format g) rest e h = rw (← e)
+first-said (Form.Put k v) rest e h = rw (← e)
+first-said (Form.Get k) rest e h = rw (← e)
+first-said (Form.Del k) rest e h = rw (← e)
+first-said (Form.Flush t) rest e h = rw (← e)
+first-said Form.Bad rest e h = absurd (miss (0 ∷ 1 ∷ 2 ∷ 3 ∷ 4 ∷ []) 5 tt h)

@@ -1,0 +1,59 @@
+-- Seven numbers: three, three and one, each over what those before it left.
+use mathlib.Core.Path.{_≡_, sym, _∙_}
+use mathlib.Core.Option.{Option}
+use lib.ListN.{drop}
+use Rattle.model.specs.Text.{text}
+use Rattle.model.specs.Calls.{Call, format}
+use Rattle.model.specs.Session.{then, narrow, numberPast, ending, formatLine}
+use Rattle.reader.specs.Places.{ThreeFigures, narrowIn, threeIn, threePast}
+use Rattle.reader.proofs.Steps.{step, known-then}
+use borrow.Author.Needs.{needs}
+use Rattle.reader.proofs.read.read_format.Statement.{statement}
+use Rattle.reader.proofs.read.read_format.Tie as tie
+
+-- what is left to read behind three numbers, and behind six
+abbrev after-six : ThreeFigures → ThreeFigures → Option Call
+after-six a b =
+    then (numberPast ") (list " narrow (b .rest)) (λ d.
+    ending "))" (d .rest)
+    (format (record {
+      parts = a .first;
+      page = a .second;
+      pages = a .third;
+      kept = b .first;
+      bits = b .second;
+      hashes = b .third;
+      list = d .value;
+    })))
+
+abbrev after-three : ThreeFigures → Option Call
+after-three a = threePast (text ") (kept ") (text ") (bits ") (text ") (hashes ") (a .rest) (after-six a)
+
+abbrev first-three : tie.After-parts → ThreeFigures
+first-three c = let w = c .parts .given .0 in record { first = w .0; second = w .1 .0; third = w .1 .1 .0; rest = drop (w .1 .1 .1 .0) (c .before .before .before .before .before .before .before .args .line .now) }
+
+abbrev second-three : tie.After-kept → ThreeFigures
+second-three c = let w = c .kept .given .0 in record { first = w .0; second = w .1 .0; third = w .1 .1 .0; rest = drop (w .1 .1 .1 .0) (c .before .before .before .before .before .before .before .before .before .before .before .before .before .before .args .line .now) }
+
+front : (c : tie.After-parts) → formatLine (c .before .before .before .before .before .before .before .args .line .now) ≡ after-three (first-three c)
+unfolding formatLine
+front c = known-then (threeIn _) after-three (c .before .before .three-past .ensures after-three) (c .parts .given .1)
+
+middle : (c : tie.After-kept) → formatLine (c .before .before .before .before .before .before .before .before .before .before .before .before .before .before .args .line .now) ≡ after-six (first-three (c .before .before .before .before .before .before .before)) (second-three c)
+middle c = front (c .before .before .before .before .before .before .before) ∙ known-then (threeIn _) (after-six (first-three (c .before .before .before .before .before .before .before))) (c .before .before .three-past2 .ensures (after-six (first-three (c .before .before .before .before .before .before .before)))) (c .kept .given .1)
+
+returns : tie.Need-returns
+unfolding formatLine
+returns c = sym (known-then (threeIn _) after-three (c .before .before .three-past .ensures after-three) (c .enum-told .given .1))
+
+returns-2 : tie.Need-returns-2
+returns-2 c = sym (front (c .before .before .before .before .before .before .before) ∙ known-then (threeIn _) (after-six (first-three (c .before .before .before .before .before .before .before))) (c .before .before .three-past2 .ensures (after-six (first-three (c .before .before .before .before .before .before .before)))) (c .enum-told2 .given .1))
+
+returns-3 : tie.Need-returns-3
+returns-3 c = sym (middle (c .before .before .before .before .before) ∙ step (narrowIn _) _ (c .before .before .narrow-past .ensures) (c .enum-told3 .given .1))
+
+returns-4 : tie.Need-returns-4
+returns-4 c = c .ending .ensures ∙ sym (middle (c .before .before .before .before .before .before .before .before) ∙ step (narrowIn _) _ (c .before .before .before .before .before .narrow-past .ensures) (c .before .before .before .list .given .1))
+
+pub read-format-spec : {M : Type 1} → statement M
+read-format-spec = tie.close (tie.spec (λ c. search needs) (λ c. search needs) (λ c. search needs) (λ c κs. search needs) (λ c. search needs) (λ c. search needs) returns (λ c. search needs) (λ c. search needs) (λ c. search needs) (λ c κs. search needs) (λ c. search needs) (λ c. search needs) returns-2 (λ c. search needs) (λ c κs. search needs) (λ c. search needs) (λ c. search needs) returns-3 (λ c. search needs) (λ c κs. search needs) returns-4)
