@@ -1,0 +1,43 @@
+-- What the session's functions promise, of areas, lines and places of any kind.
+use Prim.Native.Nat.{ℕ, _+_, _≤_, _<_}
+use mathlib.Core.List.{List}
+use mathlib.Core.Path.{_≡_}
+use lib.ListN.{length, take}
+use Rattle.model.specs.Answers.{Areas}
+use Rattle.model.specs.Session.{linePrints, lineLeaves, linesOf, printed, left}
+use Rattle.printer.specs.Puts.{Puts}
+use Rattle.session.specs.Lines.{Unended, Whole}
+use Rattle.session.specs.declared.Printed.{Printed}
+
+-- room for one more answer; none is longer
+abbrev pub room : ℕ
+room = 64
+
+-- one line on the areas a: its answer stands whole from `at` on up to `next`, and it leaves a′
+pub record Applies (line : List ℕ) (a : Areas) (at : ℕ) (before : List ℕ) (next : ℕ) (later : List ℕ) (a′ : Areas) : Type 0 where
+  pub fits : next ≤ length before
+  pub prints : Puts (linePrints line a) at before next later
+  pub leaves : a′ ≡ lineLeaves line a
+
+-- too little room, and nothing was done
+pub record Untouched (a : Areas) (at : ℕ) (before later : List ℕ) (a′ : Areas) : Type 0 where
+  pub full : length before < at + room
+  pub prints : later ≡ before
+  pub leaves : a′ ≡ a
+
+-- a line is applied exactly where there is room
+abbrev pub Applied : Printed → List ℕ → Areas → ℕ → List ℕ → List ℕ → Areas → Type 0
+Applied (Printed.Until next) line a at before later a′ = (at + room ≤ length before) × Applies line a at before next later a′
+Applied Printed.NoRoom line a at before later a′ = Untouched a at before later a′
+
+-- a run over the lines of a text: all that they print stands whole at the start of `later`, its length is n, and they leave a′
+pub record Ran (text : List ℕ) (a : Areas) (before : List ℕ) (n : ℕ) (later : List ℕ) (a′ : Areas) : Type 0 where
+  pub fits : n ≤ length before
+  pub prints : Puts (printed (linesOf text) a) 0 before n later
+  pub leaves : a′ ≡ left (linesOf text) a
+
+-- a run takes whole lines, all of them unless the room ends
+pub record Takes (taken : ℕ) (input : List ℕ) (n : ℕ) (out : List ℕ) : Type 0 where
+  pub within : taken ≤ length input
+  pub whole : Whole (take taken input)
+  pub all : n + room ≤ length out → Unended taken input
