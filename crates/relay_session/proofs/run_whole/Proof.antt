@@ -1,0 +1,58 @@
+-- The loop's invariant: the lines taken are whole, and both areas are as these leave them.
+use Prim.Native.Nat.{_-_}
+use mathlib.Core.Path.{_≡_, refl, sym}
+use native.Mathlib.Omega.{arith}
+use lib.ListN.{length}
+use lib.Seq.{length-take-le}
+use borrow.Author.Needs.{needs}
+use Rattle.answers.specs.Performs.{areas}
+use Rattle.relay_session.specs.Steps.{Went}
+use Rattle.relay_session.proofs.Going.{went-none, taken-within, went-more, went-same, went-all, unended-end}
+use Rattle.relay_session.proofs.run_whole.Statement.{statement}
+use Rattle.relay_session.proofs.run_whole.Tie as tie
+
+abbrev Inv-loop : tie.InvT-loop
+Inv-loop memory₀ flash₀ input out₀ taken₀ memory flash out taken =
+    (length memory ≡ length memory₀)
+    × (length flash ≡ length flash₀)
+    × (length out ≡ length out₀)
+    × Went taken input (areas memory₀ flash₀) (areas memory flash)
+
+abbrev μ-loop : tie.MeasureT-loop
+μ-loop memory₀ flash₀ input out₀ taken₀ memory flash out taken = length input - taken
+
+loop-holds : tie.Need-loop-holds Inv-loop μ-loop
+loop-holds c = (refl, refl, refl, went-none _ _)
+
+slice-reshare-prefix-write-all : tie.Need-slice-reshare-prefix-write-all Inv-loop μ-loop
+slice-reshare-prefix-write-all c = omega (arith, c .before .before .before .before .before .before .before .before .run-lines .ensures .1 .fits)
+
+slice-aggregate-write-all : tie.Need-slice-aggregate-write-all Inv-loop μ-loop
+slice-aggregate-write-all c = sym (length-take-le _ _ (slice-reshare-prefix-write-all (c .before)))
+
+add-taken : tie.Need-add-taken Inv-loop μ-loop
+add-taken c = omega (arith, taken-within (c .before .before .before .before .before .before .before .before .before .before .before .before .before .before .before .before .before .before .before .before .before .before .before .args .input .now) (c .before .before .before .before .before .before .before .before .before .before .before .before .before .before .before .before .before .before .loop .taken) (c .before .before .before .before .before .before .before .before .before .before .before .before .before .before .before .before .before .before .loop .inv .3 .within) _ _ _ (c .before .before .before .before .before .before .before .before .before .before .before .before .run-lines .ensures .0))
+
+loop-less : tie.Need-loop-less Inv-loop μ-loop
+loop-less c = omega (arith, taken-within (c .before .before .before .before .before .before .before .before .before .before .before .before .before .before .before .before .before .before .before .before .before .before .before .args .input .now) (c .before .before .before .before .before .before .before .before .before .before .before .before .before .before .before .before .before .before .loop .taken) (c .before .before .before .before .before .before .before .before .before .before .before .before .before .before .before .before .before .before .loop .inv .3 .within) _ _ _ (c .before .before .before .before .before .before .before .before .before .before .before .before .run-lines .ensures .0))
+
+loop-again : tie.Need-loop-again Inv-loop μ-loop
+loop-again c = (omega arith, omega arith, omega arith, went-more _ _ (c .before .before .before .before .before .before .before .before .before .before .before .before .before .before .before .before .before .before .loop .inv .3 .within) _ _ _ (c .before .before .before .before .before .before .before .before .before .before .before .before .run-lines .ensures .0) (c .before .before .before .before .before .before .before .before .before .before .before .before .before .before .before .before .before .before .loop .inv .3) (c .before .before .before .before .before .before .before .before .before .before .before .before .run-lines .ensures .1))
+
+returns-2 : tie.Need-returns-2 Inv-loop μ-loop
+returns-2 c = (c .before .loop .inv .3, unended-end (c .before .before .before .before .before .before .args .input .now) _ (c .loop-test .left))
+
+returns-3 : tie.Need-returns-3 Inv-loop μ-loop
+returns-3 c =
+    let t = c .before .before .before .before .before .before .before .before .run-lines .ensures in
+    let inside = c .before .before .before .before .before .before .before .before .before .before .before .before .before .before .loop .inv .3 .within in
+    (went-same _ _ inside _ _ _ (t .0) (c .if1 .taken) (c .before .before .before .before .before .before .before .before .before .before .before .before .before .before .loop .inv .3) (t .1), went-all (c .before .before .before .before .before .before .before .before .before .before .before .before .before .before .before .before .before .before .before .args .input .now) _ inside _ _ _ (t .0) (c .if1 .taken) (omega arith) (t .1))
+
+pub run-whole-spec : {M : Type 1} → statement M
+run-whole-spec =
+    tie.close
+    (tie.spec Inv-loop μ-loop loop-holds (λ c. omega arith) (λ c. omega arith) (λ c. omega arith) (λ c κs. search needs)
+    slice-reshare-prefix-write-all slice-aggregate-write-all (λ c κs. search needs)
+    (λ c. omega arith) (λ c. omega arith) (λ c. omega arith) (λ c. tt) add-taken loop-less loop-again
+    (λ c. omega arith) (λ c. omega arith) (λ c. omega arith) returns-2
+    (λ c. omega arith) (λ c. omega arith) (λ c. omega arith) returns-3)
