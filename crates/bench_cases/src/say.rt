@@ -1,0 +1,59 @@
+// What the cases print: numbers and answers, each behind a space.
+use answers::Answer;
+use answers::Written;
+use libc::STDOUT_FILENO;
+use model::Geometry;
+
+pub fn text(bytes: &[u8]) {
+    io::write_all(STDOUT_FILENO, bytes);
+}
+
+pub fn number(n: u64) {
+    text(b" ");
+    io::print_decimal(STDOUT_FILENO, n);
+}
+
+// The memory and the flash that a geometry needs.
+pub fn needs(g: Geometry) {
+    if geometry::is_allowed(g) {
+        number(geometry::memory_need(g) as u64);
+        number(geometry::flash_need(g) as u64);
+    }
+}
+
+// The entries that fit a page.
+pub fn entries(g: Geometry) {
+    if geometry::is_allowed(g) {
+        number(geometry::page_capacity(g) as u64);
+    }
+}
+
+// A key mixed, in hex.
+pub fn mixed(key: u64) {
+    text(b" ");
+    io::print_hex(STDOUT_FILENO, geometry::mix(key), 1);
+}
+
+// The places of the bits that are set.
+pub fn bits(filter: u64) {
+    for b in 0..64u64 {
+        if (filter >> b) % 2 == 1 {
+            number(b);
+        }
+    }
+}
+
+// An answer as the session prints it, without the byte that ends its line.
+pub fn written(answer: Written) {
+    let mut line = [0u8; 64];
+    let end = printer::write_written(&mut line, 0, answer) - 1;
+    text(b" ");
+    text(&line[..end]);
+}
+
+pub fn answer(answer: Answer) {
+    let mut line = [0u8; 64];
+    let end = printer::write_answer(&mut line, 0, answer) - 1;
+    text(b" ");
+    text(&line[..end]);
+}
