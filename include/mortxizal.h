@@ -1,0 +1,179 @@
+/*
+ * mortxizal.h: the fingerprint index for C and C++.
+ *
+ * An index lives in two byte areas that the caller lends to every call: memory,
+ * which holds the buffers, filters and lists of deleted keys, and flash, which
+ * holds the batches. The library keeps nothing of its own, allocates nothing
+ * and never fails but by a refusal in its answer. Link target/staticlib/
+ * libmortxizal.a, which `rt staticlib mortxizal` proves and writes for x86-64
+ * Linux; it needs the C library's memmove and memset alone.
+ *
+ * Every call is proved, on areas of any length and content, to answer and to
+ * leave exactly what document 01 says. A refused call has changed no byte of
+ * either area.
+ *
+ * What the caller owes, since no C compiler checks it:
+ *   - each area is as long as its length says, and may be read, and written
+ *     where its pointer is not to const;
+ *   - no pointer is NULL, also where its length is 0;
+ *   - a length is below 2^63, and no area reaches past the end of the address
+ *     space;
+ *   - memory and flash do not overlap;
+ *   - nobody else writes to either area during a call, nor reads what the call
+ *     may write. Calls on other areas may run meanwhile.
+ */
+#ifndef MORTXIZAL_H
+#define MORTXIZAL_H
+
+#include <stddef.h>
+#include <stdint.h>
+
+#ifdef __cplusplus
+extern "C" {
+#endif
+
+/*
+ * The answer of every call. A field that the table leaves out is 0.
+ *
+ *   call                       status       number    reads  batch     value
+ *   mx_format, mx_del          MX_DONE
+ *   mx_put                     MX_DONE      pages written: 0, or `pages` where
+ *                                           it flushed its key's partition
+ *   mx_flush                   MX_DONE      pages written: `pages`
+ *   mx_get, the key is there   MX_FOUND               reads  where     value
+ *   mx_get, it is not          MX_NONE                reads
+ *   mx_view, a buffer page     MX_DONE      bytes                      begins
+ *   mx_view, a page of flash   MX_DONE      bytes     1      1         begins
+ *   any of them                MX_REFUSED   refusal   reads
+ */
+typedef struct {
+    uint32_t status; /* MX_DONE, MX_FOUND, MX_NONE or MX_REFUSED */
+    uint32_t number; /* done: pages written; refused: the refusal's number; view: bytes of the page */
+    uint32_t reads;  /* flash pages read, also before a refusal */
+    uint32_t batch;  /* found: 0 in the buffer, else the batch's number; view: 0 in memory, 1 in flash */
+    uint64_t value;  /* found: the value; view: where the page begins in that area */
+} mx_answer;
+
+/* mx_answer's status */
+enum { MX_DONE = 0, MX_FOUND = 1, MX_NONE = 2, MX_REFUSED = 3 };
+
+/*
+ * Refusals: mx_answer's number where the status is MX_REFUSED. Each is given
+ * when its condition holds and no earlier one of its call does, and at no other
+ * time. mx_format checks 1, 2, 3. The others check 2 (below 32 bytes), 11,
+ * 2 (the need), 3, 4, 12 and then their own: mx_put 16; mx_get 13 as it reads;
+ * mx_del 14; mx_flush 15, 16; mx_view 17, 13. Only 13 tells reads above 0.
+ */
+enum {
+    /* from the arguments */
+    MX_REFUSED_GEOMETRY = 1,     /* mx_format: a number outside the table of mx_format */
+    MX_REFUSED_SHORT_MEMORY = 2, /* all: memory is shorter than 32 bytes, or than the need */
+    MX_REFUSED_SHORT_FLASH = 3,  /* all: flash is shorter than the need */
+    MX_REFUSED_OUT_OF_RANGE = 4, /* mx_flush, mx_view: partition not below 2^s; mx_view: page not below `pages` */
+
+    /* from what the areas hold */
+    MX_REFUSED_OPENING = 11,       /* all but mx_format: memory does not open with allowed numbers: it
+                                      was never formatted, or is damaged */
+    MX_REFUSED_OVERFULL = 12,      /* all but mx_format: damage: the partition lists more keys than it has
+                                      places for, or a buffer page that the call reads counts more
+                                      entries than fit */
+    MX_REFUSED_BATCH_PAGE = 13,    /* mx_get, mx_view: damage: a page read from flash is not the one expected
+                                      there. `reads` counts it */
+    MX_REFUSED_LIST_FULL = 14,     /* mx_del: the key has to be listed and the list is full. Flushes of the
+                                      partition free places */
+    MX_REFUSED_BUFFER_EMPTY = 15,  /* mx_flush: there is nothing to flush */
+    MX_REFUSED_NUMBERS_SPENT = 16, /* mx_put, mx_flush: a flush is due, and the partition has had 4294967295 */
+    MX_REFUSED_NOT_LIVE = 17       /* mx_view: the flush number is neither 0 nor that of a live batch */
+};
+
+/*
+ * The bytes that a table of allowed numbers needs of each area: constants, fit
+ * for the length of an array. The largest table needs 138416160 and 2147483648.
+ *
+ *   memory  32 + 2^s * (16 + 16 * list + kept * bits / 8 + pages * page)
+ *   flash   2^s * kept * pages * page
+ */
+#define MX_MEMORY_NEED(s, page, pages, kept, bits, list)                                     \
+    ((size_t)32 + ((size_t)1 << (s)) * ((size_t)16 + (size_t)16 * (list)                     \
+                                        + (size_t)(kept) * (bits) / 8 + (size_t)(pages) * (page)))
+#define MX_FLASH_NEED(s, page, pages, kept) \
+    (((size_t)1 << (s)) * (size_t)(kept) * (size_t)(pages) * (size_t)(page))
+
+/*
+ * Makes memory an empty table. Memory beyond the need stays as it is, and so
+ * does flash, which only has to be long enough: neither area has to be cleared.
+ *
+ *   number   what it is                               allowed
+ *   s        the table has 2^s partitions             0 to 8
+ *   page     bytes in a page, with page / 16 - 1      powers of two, 64 to 4096
+ *            entries
+ *   pages    pages in a batch                         powers of two, 1 to 64
+ *   kept     batches kept per partition               1 to 32
+ *   bits     bits in a batch's filter                 powers of two, 64 to 65536
+ *   hashes   bits set per key                         1 to 8
+ *   list     places for deleted keys per partition    1 to 1024
+ *
+ * Answers MX_DONE, or refuses with 1, 2 or 3.
+ */
+mx_answer mx_format(uint8_t *memory, size_t memory_len, const uint8_t *flash, size_t flash_len,
+                    uint32_t s, uint32_t page, uint32_t pages, uint32_t kept, uint32_t bits,
+                    uint32_t hashes, uint32_t list);
+
+/*
+ * Gives the key the value. Where the key is new to its buffer page and that
+ * page is full, its partition is flushed first: the buffer becomes a batch in
+ * flash. Where `kept` batches are live already the oldest one goes, and with it
+ * its keys that were not put again since. Every key and every value is allowed.
+ *
+ * Answers MX_DONE with the pages written, or refuses with 2, 3, 11, 12 or 16.
+ */
+mx_answer mx_put(uint8_t *memory, size_t memory_len, uint8_t *flash, size_t flash_len, uint64_t key,
+                 uint64_t value);
+
+/*
+ * Looks the key up: in the list of deleted keys, in the buffer, then in the
+ * live batches whose filter passes, youngest first, of which it reads one page
+ * each until it finds the key.
+ *
+ * Answers MX_FOUND with the value, the reads and where it was, or MX_NONE with
+ * the reads, or refuses with 2, 3, 11, 12 or 13.
+ */
+mx_answer mx_get(const uint8_t *memory, size_t memory_len, const uint8_t *flash, size_t flash_len,
+                 uint64_t key);
+
+/*
+ * Deletes the key: it is found no more until it is put again. Where a live
+ * batch may hold it, it takes a place in its partition's list of deleted keys
+ * until that batch is gone. A key that is not there may be deleted too. Reads
+ * no flash.
+ *
+ * Answers MX_DONE with 0 pages, or refuses with 2, 3, 11, 12 or 14.
+ */
+mx_answer mx_del(uint8_t *memory, size_t memory_len, const uint8_t *flash, size_t flash_len, uint64_t key);
+
+/*
+ * Flushes a partition, which is the top s bits of its keys: its buffer becomes
+ * a batch in flash.
+ *
+ * Answers MX_DONE with the pages written, or refuses with 2, 3, 4, 11, 12, 15
+ * or 16.
+ */
+mx_answer mx_flush(uint8_t *memory, size_t memory_len, uint8_t *flash, size_t flash_len,
+                   uint32_t partition);
+
+/*
+ * Tells where a page stands: of the buffer with flush number 0, else of the
+ * live batch with that number, which the partition's flush of that number made.
+ * The page is answer.number bytes from answer.value on, of memory where
+ * answer.batch is 0 and of flash where it is 1, and lies within that area.
+ *
+ * Answers MX_DONE with the page, or refuses with 2, 3, 4, 11, 12, 13 or 17.
+ */
+mx_answer mx_view(const uint8_t *memory, size_t memory_len, const uint8_t *flash, size_t flash_len,
+                  uint32_t partition, uint32_t page, uint32_t flush);
+
+#ifdef __cplusplus
+}
+#endif
+
+#endif
