@@ -1,0 +1,88 @@
+/*
+ * A first program over the index, for C99 and for C++:
+ *
+ *     rt staticlib mortxizal
+ *     cc -std=c99 -I include rust/mortxizal/examples/first.c target/staticlib/libmortxizal.a -o first
+ */
+#include <inttypes.h>
+#include <stdio.h>
+
+#include "mortxizal.h"
+
+/* One partition, pages of 64 bytes with three entries, one page in a batch, two batches kept. */
+enum { S = 0, PAGE = 64, PAGES = 1, KEPT = 2, BITS = 64, HASHES = 3, LIST = 1 };
+
+static uint8_t memory[MX_MEMORY_NEED(S, PAGE, PAGES, KEPT, BITS, LIST)];
+static uint8_t flash[MX_FLASH_NEED(S, PAGE, PAGES, KEPT)];
+
+static void show(const char *call, mx_answer a)
+{
+    printf("%s: ", call);
+    switch (a.status) {
+    case MX_DONE:
+        printf("done, pages written %" PRIu32 "\n", a.number);
+        break;
+    case MX_FOUND:
+        printf("%" PRIu64 " from ", a.value);
+        if (a.batch == 0) {
+            printf("the buffer");
+        } else {
+            printf("batch %" PRIu32, a.batch);
+        }
+        printf(", reads %" PRIu32 "\n", a.reads);
+        break;
+    case MX_NONE:
+        printf("none, reads %" PRIu32 "\n", a.reads);
+        break;
+    default:
+        printf("refused with %" PRIu32 ", reads %" PRIu32 "\n", a.number, a.reads);
+    }
+}
+
+static mx_answer put(uint64_t key, uint64_t value)
+{
+    return mx_put(memory, sizeof memory, flash, sizeof flash, key, value);
+}
+
+static mx_answer get(uint64_t key)
+{
+    return mx_get(memory, sizeof memory, flash, sizeof flash, key);
+}
+
+static mx_answer del(uint64_t key)
+{
+    return mx_del(memory, sizeof memory, flash, sizeof flash, key);
+}
+
+static void show_page(uint32_t flush)
+{
+    mx_answer a = mx_view(memory, sizeof memory, flash, sizeof flash, 0, 0, flush);
+    const uint8_t *page = (a.batch == 0 ? memory : flash) + a.value;
+    if (a.status == MX_DONE) {
+        printf("view %" PRIu32 ": bytes %" PRIu32 ", entries %d\n", flush, a.number, page[0] + 256 * page[1]);
+    } else {
+        printf("view %" PRIu32 ": refused with %" PRIu32 "\n", flush, a.number);
+    }
+}
+
+int main(void)
+{
+    printf("%zu bytes of memory, %zu of flash\n", sizeof memory, sizeof flash);
+    show("get 1", get(1));
+    show("format", mx_format(memory, sizeof memory, flash, sizeof flash, S, PAGE, PAGES, KEPT, BITS, HASHES, LIST));
+    show("put 1", put(1, 10));
+    show("put 2", put(2, 20));
+    show("put 3", put(3, 30));
+    show("put 4", put(4, 40)); /* the page is full: a flush, then the put */
+    show("get 2", get(2));
+    show("get 4", get(4));
+    show("del 2", del(2));
+    show("get 2", get(2));
+    show("del 3", del(3)); /* the list has one place, which key 2 has */
+    show_page(0);
+    show_page(1);
+    show_page(2);
+    show("flush", mx_flush(memory, sizeof memory, flash, sizeof flash, 0));
+    show("flush", mx_flush(memory, sizeof memory, flash, sizeof flash, 0));
+    return 0;
+}

@@ -1,0 +1,89 @@
+//! A first program over the index: `cargo run --release --offline --example first`.
+
+use std::io::{self, Write};
+
+use mortxizal::{Geometry, Index, Lookup, Place, Refused};
+
+/// One partition, pages of 64 bytes with three entries, one page in a batch,
+/// two batches kept.
+const GEOMETRY: Geometry = Geometry {
+    parts: 0,
+    page: 64,
+    pages: 1,
+    kept: 2,
+    bits: 64,
+    hashes: 3,
+    list: 1,
+};
+
+fn pages(written: Result<u32, Refused>) -> String {
+    tell(written.map(|pages| format!("done, pages written {pages}")))
+}
+
+fn lookup(found: Result<Lookup, Refused>) -> String {
+    tell(found.map(|lookup| match lookup {
+        Lookup::None { reads } => format!("none, reads {reads}"),
+        Lookup::Found {
+            value,
+            reads,
+            place,
+        } => match place {
+            Place::Buffer => format!("{value} from the buffer, reads {reads}"),
+            Place::Batch(number) => format!("{value} from batch {number}, reads {reads}"),
+        },
+    }))
+}
+
+fn page(page: Result<&[u8], Refused>) -> String {
+    match page {
+        Ok(page) => {
+            let entries = u16::from_le_bytes([page[0], page[1]]);
+            format!("bytes {}, entries {entries}", page.len())
+        }
+        Err(refused) => format!("refused with {}", refused.number()),
+    }
+}
+
+fn tell(answer: Result<String, Refused>) -> String {
+    answer.unwrap_or_else(|refused| {
+        let (number, reads) = (refused.number(), refused.reads());
+        format!("refused with {number}, reads {reads}")
+    })
+}
+
+/// Writes what `first.c` writes.
+pub fn run(output: &mut impl Write) -> Result<(), Box<dyn std::error::Error>> {
+    let mut memory = vec![0; GEOMETRY.memory_need()?];
+    let mut flash = vec![0; GEOMETRY.flash_need()?];
+    let (m, f) = (memory.len(), flash.len());
+    writeln!(output, "{m} bytes of memory, {f} of flash")?;
+
+    let index = Index::attach(&mut memory, &mut flash);
+    writeln!(output, "get 1: {}", lookup(index.get(1)))?;
+
+    let mut index = Index::format(&mut memory, &mut flash, GEOMETRY)?;
+    writeln!(output, "format: {}", pages(Ok(0)))?;
+    // With the fourth put the page is full: a flush, then the put.
+    for key in 1..=4 {
+        writeln!(output, "put {key}: {}", pages(index.put(key, 10 * key)))?;
+    }
+    for key in [2, 4] {
+        writeln!(output, "get {key}: {}", lookup(index.get(key)))?;
+    }
+    writeln!(output, "del 2: {}", pages(index.del(2).map(|()| 0)))?;
+    writeln!(output, "get 2: {}", lookup(index.get(2)))?;
+    // The list has one place, which key 2 has.
+    writeln!(output, "del 3: {}", pages(index.del(3).map(|()| 0)))?;
+    for flush in 0..3 {
+        writeln!(output, "view {flush}: {}", page(index.view(0, 0, flush)))?;
+    }
+    for _ in 0..2 {
+        writeln!(output, "flush: {}", pages(index.flush(0)))?;
+    }
+    Ok(())
+}
+
+#[allow(dead_code)]
+fn main() -> Result<(), Box<dyn std::error::Error>> {
+    run(&mut io::stdout().lock())
+}

@@ -1,0 +1,220 @@
+//! An index over two borrowed areas.
+
+use crate::raw::{self, Answer};
+use crate::{Geometry, Refused};
+
+/// Where a key was found.
+#[derive(Clone, Copy, Debug, PartialEq, Eq, Hash)]
+pub enum Place {
+    /// In the buffer.
+    Buffer,
+    /// In the batch with this flush number.
+    Batch(u32),
+}
+
+/// What a get found.
+#[derive(Clone, Copy, Debug, PartialEq, Eq, Hash)]
+pub enum Lookup {
+    /// The key has this value.
+    Found {
+        /// The key's value.
+        value: u64,
+        /// The flash pages read.
+        reads: u32,
+        /// Where the key was.
+        place: Place,
+    },
+    /// The key is not there.
+    None {
+        /// The flash pages read.
+        reads: u32,
+    },
+}
+
+impl Lookup {
+    /// The key's value, if it has one.
+    #[inline]
+    pub fn value(self) -> Option<u64> {
+        match self {
+            Lookup::Found { value, .. } => Some(value),
+            Lookup::None { .. } => None,
+        }
+    }
+
+    /// The flash pages read.
+    #[inline]
+    pub fn reads(self) -> u32 {
+        match self {
+            Lookup::Found { reads, .. } | Lookup::None { reads } => reads,
+        }
+    }
+}
+
+/// A table in two borrowed areas, memory and flash.
+///
+/// All its state is in the areas. An index may be dropped and taken up again
+/// later with [`Index::attach`], also in another process, as long as the bytes
+/// of both areas come back together.
+///
+/// ```
+/// use mortxizal::{Geometry, Index, Lookup, Place};
+///
+/// let geometry = Geometry { parts: 1, ..Geometry::default() };
+/// let mut memory = vec![0; geometry.memory_need()?];
+/// let mut flash = vec![0; geometry.flash_need()?];
+///
+/// let mut index = Index::format(&mut memory, &mut flash, geometry)?;
+/// index.put(7, 70)?;
+/// index.flush(0)?;
+/// let found = Lookup::Found { value: 70, reads: 1, place: Place::Batch(1) };
+/// assert_eq!(index.get(7)?, found);
+/// index.del(7)?;
+/// assert_eq!(index.get(7)?, Lookup::None { reads: 0 });
+/// # Ok::<(), mortxizal::Refused>(())
+/// ```
+#[derive(Debug)]
+pub struct Index<'a> {
+    memory: &'a mut [u8],
+    flash: &'a mut [u8],
+}
+
+impl<'a> Index<'a> {
+    /// Makes memory an empty table of the geometry. Bytes beyond the need and
+    /// all of flash stay as they are.
+    ///
+    /// Refused with [`Geometry`](Refused::Geometry),
+    /// [`ShortMemory`](Refused::ShortMemory) or
+    /// [`ShortFlash`](Refused::ShortFlash), in this order.
+    pub fn format(
+        memory: &'a mut [u8],
+        flash: &'a mut [u8],
+        geometry: Geometry,
+    ) -> Result<Self, Refused> {
+        accepted(raw::format(memory, flash, geometry))?;
+        Ok(Index { memory, flash })
+    }
+
+    /// Takes up the table that the areas hold. Nothing is checked here: where
+    /// they hold none, or a damaged one, its calls are refused.
+    ///
+    /// ```
+    /// use mortxizal::{Index, Refused};
+    ///
+    /// let (mut memory, mut flash) = ([0; 100], [0; 100]);
+    /// let index = Index::attach(&mut memory, &mut flash);
+    /// assert_eq!(index.get(1), Err(Refused::Opening));
+    /// ```
+    pub fn attach(memory: &'a mut [u8], flash: &'a mut [u8]) -> Self {
+        Index { memory, flash }
+    }
+
+    /// The memory area.
+    pub fn memory(&self) -> &[u8] {
+        self.memory
+    }
+
+    /// The flash area.
+    pub fn flash(&self) -> &[u8] {
+        self.flash
+    }
+
+    /// Gives both areas back, memory first.
+    pub fn into_areas(self) -> (&'a mut [u8], &'a mut [u8]) {
+        (self.memory, self.flash)
+    }
+
+    /// Gives the key the value: the flash pages written. These are 0, or
+    /// [`Geometry::pages`] where the key's buffer page was full and its
+    /// partition was flushed first.
+    ///
+    /// A flush makes the buffer a batch. Where [`Geometry::kept`] batches are
+    /// live already the oldest one goes, and with it its keys that were not put
+    /// again since.
+    #[inline]
+    pub fn put(&mut self, key: u64, value: u64) -> Result<u32, Refused> {
+        let answer = raw::put(self.memory, self.flash, key, value);
+        Ok(accepted(answer)?.number)
+    }
+
+    /// Looks the key up, in the buffer and then in the live batches whose
+    /// filter passes, youngest first.
+    ///
+    /// ```
+    /// # use mortxizal::{Geometry, Index};
+    /// # let geometry = Geometry::default();
+    /// # let mut memory = vec![0; geometry.memory_need()?];
+    /// # let mut flash = vec![0; geometry.flash_need()?];
+    /// # let mut index = Index::format(&mut memory, &mut flash, geometry)?;
+    /// index.put(7, 70)?;
+    /// assert_eq!(index.get(7)?.value(), Some(70));
+    /// assert_eq!(index.get(8)?.value(), None);
+    /// # Ok::<(), mortxizal::Refused>(())
+    /// ```
+    #[inline]
+    pub fn get(&self, key: u64) -> Result<Lookup, Refused> {
+        let answer = accepted(raw::get(self.memory, self.flash, key))?;
+        let reads = answer.reads;
+        if answer.status == raw::NONE {
+            return Ok(Lookup::None { reads });
+        }
+        let place = match answer.batch {
+            0 => Place::Buffer,
+            number => Place::Batch(number),
+        };
+        Ok(Lookup::Found {
+            value: answer.value,
+            reads,
+            place,
+        })
+    }
+
+    /// Deletes the key: it is found no more until it is put again. A key that
+    /// is not there may be deleted too.
+    #[inline]
+    pub fn del(&mut self, key: u64) -> Result<(), Refused> {
+        accepted(raw::del(self.memory, self.flash, key))?;
+        Ok(())
+    }
+
+    /// Makes the partition's buffer a batch in flash: the pages written, which
+    /// are [`Geometry::pages`].
+    #[inline]
+    pub fn flush(&mut self, partition: u32) -> Result<u32, Refused> {
+        let answer = raw::flush(self.memory, self.flash, partition);
+        Ok(accepted(answer)?.number)
+    }
+
+    /// One page where it stands: of the buffer for flush number 0, else of the
+    /// live batch with that number.
+    ///
+    /// ```
+    /// # use mortxizal::{Geometry, Index};
+    /// # let geometry = Geometry::default();
+    /// # let mut memory = vec![0; geometry.memory_need()?];
+    /// # let mut flash = vec![0; geometry.flash_need()?];
+    /// # let mut index = Index::format(&mut memory, &mut flash, geometry)?;
+    /// index.put(16, 160)?;
+    /// let page = index.view(0, 0, 0)?;
+    /// assert_eq!(page.len(), 4096);
+    /// assert_eq!(page[..2], [1, 0], "a page opens with the count of its entries");
+    /// # Ok::<(), mortxizal::Refused>(())
+    /// ```
+    #[inline]
+    pub fn view(&self, partition: u32, page: u32, flush: u32) -> Result<&[u8], Refused> {
+        let answer = accepted(raw::view(self.memory, self.flash, partition, page, flush))?;
+        let area = match answer.batch {
+            0 => &*self.memory,
+            _ => &*self.flash,
+        };
+        let at = answer.value as usize;
+        Ok(&area[at..at + answer.number as usize])
+    }
+}
+
+#[inline]
+fn accepted(answer: Answer) -> Result<Answer, Refused> {
+    match Refused::of(answer) {
+        None => Ok(answer),
+        Some(refused) => Err(refused),
+    }
+}

@@ -1,0 +1,206 @@
+//! The same two areas twice: for the proved library and for the Rust index.
+
+use mortxizal::raw;
+use mortxizal::{Geometry, Index, Lookup, Place, Refused};
+
+use crate::common::call::{call_index, Answer, Call};
+use crate::common::{Rng, Table};
+
+const GUARD: u8 = 0xe7;
+const GUARDS: usize = 16;
+
+/// An area that begins anywhere, between bytes that nobody may write.
+struct Area {
+    bytes: Vec<u8>,
+    start: usize,
+    length: usize,
+}
+
+impl Area {
+    fn new(rng: &mut Rng, content: &[u8]) -> Area {
+        let start = GUARDS + rng.below(16);
+        let length = content.len();
+        let mut bytes = vec![GUARD; start + length + GUARDS];
+        bytes[start..start + length].copy_from_slice(content);
+        Area {
+            bytes,
+            start,
+            length,
+        }
+    }
+
+    fn lend(&mut self) -> &mut [u8] {
+        &mut self.bytes[self.start..self.start + self.length]
+    }
+
+    fn is(&self, content: &[u8]) -> bool {
+        let (before, rest) = self.bytes.split_at(self.start);
+        let (area, behind) = rest.split_at(self.length);
+        let guards = before.iter().chain(behind);
+        area == content && guards.copied().all(|byte| byte == GUARD)
+    }
+}
+
+pub struct Pair {
+    memory: Area,
+    flash: Area,
+    /// The areas of the Rust index. Its geometry is the last one formatted, and
+    /// tells where things stand in them.
+    pub plain: Table,
+    /// Both areas before the call.
+    before: Table,
+}
+
+impl Pair {
+    pub fn new(rng: &mut Rng, plain: Table) -> Pair {
+        Pair {
+            memory: Area::new(rng, &plain.memory),
+            flash: Area::new(rng, &plain.flash),
+            before: plain.clone(),
+            plain,
+        }
+    }
+
+    /// Areas of random bytes.
+    pub fn random(rng: &mut Rng, g: reference::Geometry, memory: usize, flash: usize) -> Pair {
+        let mut bytes = |length: usize| {
+            let words = (0..length.div_ceil(8)).flat_map(|_| rng.next().to_le_bytes());
+            words.take(length).collect::<Vec<u8>>()
+        };
+        let (memory, flash) = (bytes(memory), bytes(flash));
+        Pair::new(rng, Table { g, memory, flash })
+    }
+
+    /// Changes the bytes of both sides.
+    pub fn change(&mut self, change: impl FnOnce(&mut Table)) {
+        change(&mut self.plain);
+        self.before.clone_from(&self.plain);
+        self.memory.lend().copy_from_slice(&self.plain.memory);
+        self.flash.lend().copy_from_slice(&self.plain.flash);
+    }
+
+    /// Makes the call on both sides. They agree on everything, and a refused
+    /// call has changed nothing.
+    pub fn call(&mut self, rng: &mut Rng, call: Call) -> Answer {
+        let expected = call_index(call, &mut self.plain.memory, &mut self.plain.flash);
+        let (memory, flash) = (self.memory.lend(), self.flash.lend());
+        match call {
+            Call::Get(_) | Call::View(..) => {
+                assert_eq!(call_raw(call, memory, flash), told(expected), "{call:?}");
+                check_library(call, memory, flash, expected);
+            }
+            _ if rng.one_in(2) => {
+                assert_eq!(call_raw(call, memory, flash), told(expected), "{call:?}");
+            }
+            _ => check_library(call, memory, flash, expected),
+        }
+        assert!(self.memory.is(&self.plain.memory), "{call:?}: memory");
+        assert!(self.flash.is(&self.plain.flash), "{call:?}: flash");
+        if let Answer::Refused(..) = expected {
+            let same = self.before.memory == self.plain.memory;
+            assert!(
+                same && self.before.flash == self.plain.flash,
+                "{call:?}: refused"
+            );
+        } else {
+            if let Call::Format(g) = call {
+                self.plain.g = g;
+            }
+            self.before.clone_from(&self.plain);
+        }
+        expected
+    }
+}
+
+/// An answer in all its fields, as `include/mortxizal.h` tells it.
+fn told(answer: Answer) -> raw::Answer {
+    let (status, number, reads, batch, value) = match answer {
+        Answer::Done(pages) => (raw::DONE, pages, 0, 0, 0),
+        Answer::Found(value, reads, batch) => (raw::FOUND, 0, reads, batch, value),
+        Answer::None(reads) => (raw::NONE, 0, reads, 0, 0),
+        Answer::InMemory(at, size) => (raw::DONE, size as u32, 0, 0, at as u64),
+        Answer::InFlash(at, size) => (raw::DONE, size as u32, 1, 1, at as u64),
+        Answer::Refused(number, reads) => (raw::REFUSED, number, reads, 0, 0),
+    };
+    raw::Answer {
+        status,
+        number,
+        reads,
+        batch,
+        value,
+    }
+}
+
+fn geometry(g: reference::Geometry) -> Geometry {
+    Geometry {
+        parts: g.parts,
+        page: g.page,
+        pages: g.pages,
+        kept: g.kept,
+        bits: g.bits,
+        hashes: g.hashes,
+        list: g.list,
+    }
+}
+
+fn call_raw(call: Call, memory: &mut [u8], flash: &mut [u8]) -> raw::Answer {
+    match call {
+        Call::Format(g) => raw::format(memory, flash, geometry(g)),
+        Call::Put(key, value) => raw::put(memory, flash, key, value),
+        Call::Get(key) => raw::get(memory, flash, key),
+        Call::Del(key) => raw::del(memory, flash, key),
+        Call::Flush(partition) => raw::flush(memory, flash, partition),
+        Call::View(partition, page, flush) => raw::view(memory, flash, partition, page, flush),
+    }
+}
+
+/// Makes the call with the library's `Index`, whose answer is the expected one.
+fn check_library(call: Call, memory: &mut [u8], flash: &mut [u8], expected: Answer) {
+    let answer = match call {
+        Call::Format(g) => Index::format(memory, flash, geometry(g)).map(|_| Answer::Done(0)),
+        Call::Put(key, value) => Index::attach(memory, flash)
+            .put(key, value)
+            .map(Answer::Done),
+        Call::Get(key) => Index::attach(memory, flash).get(key).map(lookup),
+        Call::Del(key) => Index::attach(memory, flash)
+            .del(key)
+            .map(|()| Answer::Done(0)),
+        Call::Flush(partition) => Index::attach(memory, flash)
+            .flush(partition)
+            .map(Answer::Done),
+        Call::View(partition, page, flush) => {
+            let index = Index::attach(memory, flash);
+            let shown = index.view(partition, page, flush);
+            shown.map(|shown| check_part(shown, &index, expected))
+        }
+    };
+    let refused = |refused: Refused| Answer::Refused(refused.number(), refused.reads());
+    assert_eq!(answer.unwrap_or_else(refused), expected, "{call:?}");
+}
+
+fn lookup(lookup: Lookup) -> Answer {
+    match lookup {
+        Lookup::None { reads } => Answer::None(reads),
+        Lookup::Found {
+            value,
+            reads,
+            place: Place::Buffer,
+        } => Answer::Found(value, reads, 0),
+        Lookup::Found {
+            value,
+            reads,
+            place: Place::Batch(number),
+        } => Answer::Found(value, reads, number),
+    }
+}
+
+/// The part that is shown is the expected one, where it stands.
+fn check_part(shown: &[u8], index: &Index, expected: Answer) -> Answer {
+    let part = match expected {
+        Answer::InMemory(at, size) => &index.memory()[at..at + size],
+        Answer::InFlash(at, size) => &index.flash()[at..at + size],
+        _ => panic!("a page is shown, not {expected:?}"),
+    };
+    assert!(std::ptr::eq(shown, part), "another part than {expected:?}");
+    expected
+}

@@ -1,0 +1,74 @@
+//! `include/mortxizal.h` with the archive, from C and from C++.
+
+use std::env;
+use std::path::{Path, PathBuf};
+use std::process::Command;
+
+const HERE: &str = env!("CARGO_MANIFEST_DIR");
+
+#[derive(Clone, Copy)]
+enum Language {
+    C,
+    Cpp,
+}
+
+/// Compiles a program without a warning and links the archive.
+fn compile(language: Language, source: &str, program: &str) -> PathBuf {
+    let (variable, usual, words) = match language {
+        Language::C => ("CC", "cc", ["-x", "c", "-std=c99"]),
+        Language::Cpp => ("CXX", "c++", ["-x", "c++", "-std=c++11"]),
+    };
+    let compiler = env::var(variable).unwrap_or_else(|_| usual.to_string());
+    let program = Path::new(env!("CARGO_TARGET_TMPDIR")).join(program);
+    let output = Command::new(&compiler)
+        .args(words)
+        .args(["-O2", "-Wall", "-Wextra", "-Wpedantic", "-Werror", "-I"])
+        .arg(Path::new(HERE).join("../../include"))
+        .arg(Path::new(HERE).join(source))
+        .args(["-x", "none", env!("MORTXIZAL_ARCHIVE"), "-o"])
+        .arg(&program)
+        .output()
+        .unwrap_or_else(|error| panic!("{compiler}: {error}"));
+    let said = String::from_utf8_lossy(&output.stderr);
+    assert!(output.status.success(), "{compiler}: {said}");
+    program
+}
+
+/// What the program writes.
+fn run(program: &Path) -> String {
+    let output = Command::new(program).output().unwrap();
+    assert!(output.status.success(), "{}", program.display());
+    String::from_utf8(output.stdout).unwrap()
+}
+
+fn expected() -> String {
+    std::fs::read_to_string(Path::new(HERE).join("examples/first.out")).unwrap()
+}
+
+#[test]
+fn first_program_in_c() {
+    let program = compile(Language::C, "examples/first.c", "first_c");
+    assert_eq!(run(&program), expected());
+}
+
+#[test]
+fn first_program_in_cpp() {
+    let program = compile(Language::Cpp, "examples/first.c", "first_cpp");
+    assert_eq!(run(&program), expected());
+}
+
+#[test]
+fn sizes_in_c_and_cpp() {
+    run(&compile(Language::C, "tests/layout.c", "layout_c"));
+    run(&compile(Language::Cpp, "tests/layout.c", "layout_cpp"));
+}
+
+#[path = "../examples/first.rs"]
+mod first;
+
+#[test]
+fn first_program_in_rust() {
+    let mut output = Vec::new();
+    first::run(&mut output).unwrap();
+    assert_eq!(String::from_utf8(output).unwrap(), expected());
+}

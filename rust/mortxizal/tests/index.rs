@@ -1,0 +1,219 @@
+//! The library as a Rust user meets it.
+
+use std::error::Error;
+use std::thread;
+
+use mortxizal::{raw, Geometry, Index, Lookup, Place, Refused};
+
+/// The geometry of the worked session of document 01.
+const G: Geometry = Geometry {
+    parts: 0,
+    page: 64,
+    pages: 1,
+    kept: 2,
+    bits: 64,
+    hashes: 3,
+    list: 1,
+};
+
+const LARGEST: Geometry = Geometry {
+    parts: 8,
+    page: 4096,
+    pages: 64,
+    kept: 32,
+    bits: 65536,
+    hashes: 8,
+    list: 1024,
+};
+
+fn areas(geometry: Geometry) -> (Vec<u8>, Vec<u8>) {
+    let memory = geometry.memory_need().unwrap();
+    (
+        vec![0xa5; memory],
+        vec![0x5a; geometry.flash_need().unwrap()],
+    )
+}
+
+fn found(value: u64, reads: u32, place: Place) -> Result<Lookup, Refused> {
+    Ok(Lookup::Found {
+        value,
+        reads,
+        place,
+    })
+}
+
+#[test]
+fn worked_session() {
+    let (mut memory, mut flash) = areas(G);
+    let mut index = Index::format(&mut memory, &mut flash, G).unwrap();
+    assert_eq!(index.put(1, 10), Ok(0));
+    assert_eq!(index.put(2, 20), Ok(0));
+    assert_eq!(index.put(3, 30), Ok(0));
+    assert_eq!(index.put(0, 40), Ok(1));
+    assert_eq!(index.get(2), found(20, 1, Place::Batch(1)));
+    assert_eq!(index.del(2), Ok(()));
+    assert_eq!(index.get(2), Ok(Lookup::None { reads: 0 }));
+    assert_eq!(index.del(3), Err(Refused::ListFull));
+    assert_eq!(index.get(3), found(30, 1, Place::Batch(1)));
+    assert_eq!(index.get(0), found(40, 0, Place::Buffer));
+    assert_eq!(index.flush(0), Ok(1));
+    assert_eq!(index.get(0), found(40, 1, Place::Batch(2)));
+}
+
+#[test]
+fn an_index_is_taken_up_again() {
+    let (mut memory, mut flash) = areas(G);
+    let mut index = Index::format(&mut memory, &mut flash, G).unwrap();
+    index.put(5, 50).unwrap();
+    index.flush(0).unwrap();
+    index.put(6, 60).unwrap();
+    let (first, second) = index.into_areas();
+    let (mut memory, mut flash) = (first.to_vec(), second.to_vec());
+    let index = Index::attach(&mut memory, &mut flash);
+    assert_eq!(index.get(5), found(50, 1, Place::Batch(1)));
+    assert_eq!(index.get(6), found(60, 0, Place::Buffer));
+    assert_eq!(index.memory().len(), 144);
+    assert_eq!(index.flash().len(), 128);
+}
+
+#[test]
+fn a_view_is_the_page_itself() {
+    let (mut memory, mut flash) = areas(G);
+    let mut index = Index::format(&mut memory, &mut flash, G).unwrap();
+    index.put(5, 50).unwrap();
+    index.flush(0).unwrap();
+    assert_eq!(index.view(0, 0, 0), Ok(&index.memory()[80..]));
+    let page = index.view(0, 0, 1).unwrap();
+    assert_eq!(page, &index.flash()[..64]);
+    assert_eq!(page[..12], [1, 0, 0, 0, 0, 0, 0, 0, 1, 0, 0, 0]);
+    assert_eq!(
+        page[16..32],
+        [5, 0, 0, 0, 0, 0, 0, 0, 50, 0, 0, 0, 0, 0, 0, 0]
+    );
+    assert_eq!(index.view(0, 0, 2), Err(Refused::NotLive));
+    assert_eq!(index.view(0, 1, 0), Err(Refused::OutOfRange));
+    assert_eq!(index.view(1, 0, 0), Err(Refused::OutOfRange));
+}
+
+#[test]
+fn a_damaged_table_refuses() {
+    let (mut memory, mut flash) = areas(G);
+    let mut index = Index::format(&mut memory, &mut flash, G).unwrap();
+    index.put(5, 50).unwrap();
+    index.flush(0).unwrap();
+    flash[8] ^= 1;
+    let index = Index::attach(&mut memory, &mut flash);
+    let refused = Refused::BatchPage { reads: 1 };
+    assert_eq!(index.get(5), Err(refused));
+    assert_eq!(index.view(0, 0, 1), Err(refused));
+    assert_eq!((refused.number(), refused.reads()), (13, 1));
+    memory[36] = 2;
+    let mut index = Index::attach(&mut memory, &mut flash);
+    assert_eq!(index.put(1, 1), Err(Refused::Overfull));
+    memory[0] = 9;
+    let mut index = Index::attach(&mut memory, &mut flash);
+    assert_eq!(index.flush(0), Err(Refused::Opening));
+}
+
+#[test]
+fn areas_of_no_bytes() {
+    let mut index = Index::attach(&mut [], &mut []);
+    let short = Refused::ShortMemory;
+    assert_eq!(index.put(1, 1), Err(short));
+    assert_eq!(index.get(1), Err(short));
+    assert_eq!(index.del(1), Err(short));
+    assert_eq!(index.flush(0), Err(short));
+    assert_eq!(index.view(0, 0, 0), Err(short));
+    assert_eq!(Index::format(&mut [], &mut [], G).unwrap_err(), short);
+}
+
+#[test]
+fn needs_are_those_of_format() {
+    assert_eq!(G.memory_need(), Ok(144));
+    assert_eq!(G.flash_need(), Ok(128));
+    assert_eq!(LARGEST.memory_need(), Ok(138_416_160));
+    assert_eq!(LARGEST.flash_need(), Ok(2_147_483_648));
+    for shift in 0..=8 {
+        let geometry = Geometry {
+            parts: shift % 3,
+            page: 64 << (shift % 7),
+            pages: 1 << (shift % 5),
+            kept: 1 + 3 * shift,
+            bits: 64 << shift,
+            hashes: 1 + shift % 8,
+            list: 1 + 100 * shift,
+        };
+        let (mut memory, mut flash) = areas(geometry);
+        let mut refused = |m: usize, f: usize| {
+            let (memory, flash) = (&mut memory[m..], &mut flash[f..]);
+            Index::format(memory, flash, geometry).err()
+        };
+        assert_eq!(refused(1, 0), Some(Refused::ShortMemory), "{geometry:?}");
+        assert_eq!(refused(0, 1), Some(Refused::ShortFlash), "{geometry:?}");
+        assert_eq!(refused(0, 0), None, "{geometry:?}");
+    }
+}
+
+#[test]
+fn geometries_outside_the_ranges() {
+    assert!(G.is_allowed() && LARGEST.is_allowed() && Geometry::default().is_allowed());
+    let wrong = [
+        Geometry { parts: 9, ..G },
+        Geometry { page: 32, ..G },
+        Geometry { page: 96, ..G },
+        Geometry { page: 8192, ..G },
+        Geometry { pages: 0, ..G },
+        Geometry { pages: 3, ..G },
+        Geometry { pages: 128, ..G },
+        Geometry { kept: 0, ..G },
+        Geometry { kept: 33, ..G },
+        Geometry { bits: 32, ..G },
+        Geometry { bits: 100, ..G },
+        Geometry { bits: 131_072, ..G },
+        Geometry { hashes: 0, ..G },
+        Geometry { hashes: 9, ..G },
+        Geometry { list: 0, ..G },
+        Geometry { list: 1025, ..G },
+        Geometry {
+            parts: u32::MAX,
+            ..LARGEST
+        },
+    ];
+    for geometry in wrong {
+        assert!(!geometry.is_allowed(), "{geometry:?}");
+        assert_eq!(geometry.memory_need(), Err(Refused::Geometry));
+        assert_eq!(geometry.flash_need(), Err(Refused::Geometry));
+        let refused = Index::format(&mut [0; 400], &mut [0; 400], geometry).err();
+        assert_eq!(refused, Some(Refused::Geometry), "{geometry:?}");
+    }
+}
+
+#[test]
+fn several_threads_read() {
+    let (mut memory, mut flash) = areas(Geometry::default());
+    let mut index = Index::format(&mut memory, &mut flash, Geometry::default()).unwrap();
+    for key in 0..10_000 {
+        index.put(key << 50 | key, key).unwrap();
+    }
+    let index = &index;
+    thread::scope(|scope| {
+        for _ in 0..4 {
+            scope.spawn(move || {
+                for key in 0..10_000 {
+                    assert_eq!(index.get(key << 50 | key).unwrap().value(), Some(key));
+                }
+            });
+        }
+    });
+    let answer = raw::get(index.memory(), index.flash(), 7 << 50 | 7);
+    assert_eq!((answer.status, answer.value), (raw::FOUND, 7));
+}
+
+#[test]
+fn a_refusal_is_an_error() {
+    let refused: Box<dyn Error> = Box::new(Refused::ListFull);
+    assert_eq!(
+        refused.to_string(),
+        "the list of deleted keys is full (refusal 14)"
+    );
+}

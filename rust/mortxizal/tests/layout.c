@@ -1,0 +1,24 @@
+/* What include/mortxizal.h promises of sizes, checked by the compiler; C99 has no static assertion. */
+#include "mortxizal.h"
+
+#define HOLDS(name, fact) typedef char name[(fact) ? 1 : -1]
+#define PLACED(field, at, length)                                        \
+    HOLDS(field##_at, offsetof(mx_answer, field) == (at));               \
+    HOLDS(field##_length, sizeof(((mx_answer *)0)->field) == (length))
+
+PLACED(status, 0, 4);
+PLACED(number, 4, 4);
+PLACED(reads, 8, 4);
+PLACED(batch, 12, 4);
+PLACED(value, 16, 8);
+HOLDS(answer_length, sizeof(mx_answer) == 24);
+
+HOLDS(session_memory, MX_MEMORY_NEED(0, 64, 1, 2, 64, 1) == 144);
+HOLDS(session_flash, MX_FLASH_NEED(0, 64, 1, 2) == 128);
+HOLDS(largest_memory, MX_MEMORY_NEED(8, 4096, 64, 32, 65536, 1024) == 138416160);
+HOLDS(largest_flash, MX_FLASH_NEED(8, 4096, 64, 32) == 2147483648);
+
+int main(void)
+{
+    return 0;
+}
