@@ -1,0 +1,107 @@
+//! Whole sessions: document 01's, every refusal, the ends of input and output.
+
+use programs::{compare, run, run_to_full_disk};
+
+const INPUT: &[u8] = include_bytes!("../../../crates/relay_session/stdin");
+const OUTPUT: &[u8] = include_bytes!("../../../crates/relay_session/stdout");
+
+const FORMAT: &str =
+    "(format (parts 0) (page 64) (pages 1) (kept 2) (bits 64) (hashes 3) (list 1))";
+
+#[test]
+fn the_worked_session() {
+    assert_eq!(run(INPUT), OUTPUT);
+    compare(INPUT);
+}
+
+#[test]
+fn no_input() {
+    assert_eq!(run(b""), b"");
+}
+
+#[test]
+fn a_last_line_without_a_byte_10() {
+    let cut = INPUT.strip_suffix(b"\n").unwrap();
+    assert_eq!(run(cut), OUTPUT);
+    assert_eq!(run(b"(get 1)"), b"(refused 11 0)\n");
+    assert_eq!(run(b"x"), b"(bad)\n");
+}
+
+#[test]
+fn empty_lines_are_bad() {
+    assert_eq!(run(b"\n"), b"(bad)\n");
+    assert_eq!(
+        run(b"\n\n(get 1)\n\n"),
+        b"(bad)\n(bad)\n(refused 11 0)\n(bad)\n"
+    );
+}
+
+/// The refusals that a session can come to: its calls leave no damaged page or
+/// count behind, it has no view, and 2^32 flushes are out of reach.
+#[test]
+fn every_refusal() {
+    let format = |n: [u32; 7]| {
+        format!(
+            "(format (parts {}) (page {}) (pages {}) (kept {}) (bits {}) (hashes {}) (list {}))",
+            n[0], n[1], n[2], n[3], n[4], n[5], n[6]
+        )
+    };
+    let lines = [
+        ("(put 1 1)".into(), "(refused 11 0)"),
+        ("(get 1)".into(), "(refused 11 0)"),
+        ("(del 1)".into(), "(refused 11 0)"),
+        ("(flush 0)".into(), "(refused 11 0)"),
+        (format([9, 64, 1, 2, 64, 3, 1]), "(refused 1 0)"),
+        (format([0, 32, 1, 2, 64, 3, 1]), "(refused 1 0)"),
+        (format([0, 64, 3, 2, 64, 3, 1]), "(refused 1 0)"),
+        (format([0, 64, 1, 0, 64, 3, 1]), "(refused 1 0)"),
+        (format([0, 64, 1, 33, 64, 3, 1]), "(refused 1 0)"),
+        (format([0, 64, 1, 2, 65, 3, 1]), "(refused 1 0)"),
+        (format([0, 64, 1, 2, 64, 9, 1]), "(refused 1 0)"),
+        (format([0, 64, 1, 2, 64, 3, 1025]), "(refused 1 0)"),
+        (format([8, 4096, 64, 32, 65536, 8, 1024]), "(refused 2 0)"),
+        (format([0, 64, 64, 32, 64, 3, 1]), "(refused 3 0)"),
+        (FORMAT.into(), "(ok 0)"),
+        ("(flush 0)".into(), "(refused 15 0)"),
+        ("(flush 1)".into(), "(refused 4 0)"),
+        ("(flush 4294967295)".into(), "(refused 4 0)"),
+        ("(put 1 10)".into(), "(ok 0)"),
+        ("(put 2 20)".into(), "(ok 0)"),
+        ("(flush 0)".into(), "(ok 1)"),
+        ("(del 1)".into(), "(ok 0)"),
+        ("(del 2)".into(), "(refused 14 0)"),
+        ("(del 1)".into(), "(ok 0)"),
+        ("(get 1)".into(), "(none 0)"),
+        ("(get 2)".into(), "(found 20 1)"),
+    ];
+    let input: String = lines
+        .iter()
+        .map(|(line, _): &(String, _)| format!("{line}\n"))
+        .collect();
+    let output: String = lines
+        .iter()
+        .map(|(_, answer)| format!("{answer}\n"))
+        .collect();
+    assert_eq!(String::from_utf8(run(input.as_bytes())).unwrap(), output);
+    compare(input.as_bytes());
+}
+
+/// Short lines with long answers: the room for answers ends before the input does.
+#[test]
+fn more_answers_than_room() {
+    let largest = u64::MAX;
+    let mut input = format!("{FORMAT}\n(put 1 {largest})\n(flush 0)\n");
+    let mut output = String::from("(ok 0)\n(ok 0)\n(ok 1)\n");
+    for _ in 0..50_000 {
+        input.push_str("(get 1)\n");
+        output.push_str(&format!("(found {largest} 1)\n"));
+    }
+    assert!(run(input.as_bytes()) == output.as_bytes());
+}
+
+#[test]
+fn a_write_that_fails_ends_the_session() {
+    run_to_full_disk(b"(get 1)\n");
+    run_to_full_disk(b"(get 1)");
+    run_to_full_disk(&b"(get 1)\n".repeat(1_000_000));
+}
