@@ -1,0 +1,60 @@
+//! The proved engine through its C interface (crates/mortxizal).
+
+use crate::index::{Done, Got, Index};
+use mortxizal::raw::{self, Answer};
+use reference::Geometry;
+
+pub struct Engine;
+
+#[inline]
+fn done(answer: Answer) -> Done {
+    if answer.status == raw::DONE {
+        Ok(answer.number)
+    } else {
+        Err(answer.number)
+    }
+}
+
+impl Index for Engine {
+    fn format(memory: &mut [u8], flash: &[u8], g: Geometry) -> Done {
+        let geometry = mortxizal::Geometry {
+            parts: g.parts,
+            page: g.page,
+            pages: g.pages,
+            kept: g.kept,
+            bits: g.bits,
+            hashes: g.hashes,
+            list: g.list,
+        };
+        done(raw::format(memory, flash, geometry))
+    }
+
+    #[inline]
+    fn put(memory: &mut [u8], flash: &mut [u8], key: u64, value: u64) -> Done {
+        done(raw::put(memory, flash, key, value))
+    }
+
+    #[inline]
+    fn get(memory: &[u8], flash: &[u8], key: u64) -> Result<Got, u32> {
+        let answer = raw::get(memory, flash, key);
+        if answer.status == raw::REFUSED {
+            return Err(answer.number);
+        }
+        Ok(Got {
+            found: answer.status == raw::FOUND,
+            value: answer.value,
+            reads: answer.reads,
+            batch: answer.batch,
+        })
+    }
+
+    #[inline]
+    fn del(memory: &mut [u8], flash: &[u8], key: u64) -> Done {
+        done(raw::del(memory, flash, key))
+    }
+
+    #[inline]
+    fn flush(memory: &mut [u8], flash: &mut [u8], partition: u32) -> Done {
+        done(raw::flush(memory, flash, partition))
+    }
+}
