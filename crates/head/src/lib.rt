@@ -25,12 +25,15 @@ impl Head {
     }
 
     // One flush more.
-    pub fn flushed(mut self) -> Self
+    pub fn flushed(self) -> Self
         requires { ⌜ self .flushes < 4294967295 ⌝ }
         ensures { λ r. ⌜ asHead r ≡ record { flushes = self .flushes + 1; listed = self .listed; rest = self .rest } ⌝ }
     {
-        self.flushes = self.flushes + 1;
-        self
+        Self {
+            flushes: self.flushes + 1,
+            listed: self.listed,
+            rest: self.rest,
+        }
     }
 
     // One listed key more.

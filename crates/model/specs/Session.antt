@@ -5,6 +5,7 @@ use mathlib.Core.Bool.{cond}
 use mathlib.Core.List.{List, [], _∷_, _++_}
 use mathlib.Core.Option.{Option, none, some}
 use lib.Dec.{eqb}
+use Rattle.model.specs.Bytes.{zeros}
 use Rattle.model.specs.Text.{text, decimal, past, Figure, figure}
 use Rattle.model.specs.Answers.{Areas, Answer, done, found, absent, shown, refused}
 use Rattle.model.specs.Calls.{Call, format, put, get, del, flush, reply, after}
@@ -112,6 +113,13 @@ startedBy x (l ∷ ls) = (x ∷ l) ∷ ls
 unfoldable pub linesOf : List ℕ → List (List ℕ)
 linesOf [] = []
 linesOf (x ∷ xs) = cond (eqb x 10) ([] ∷ linesOf xs) (startedBy x (linesOf xs))
+
+-- "over two areas of 32,768 zero bytes"
+unfoldable pub zeroArea : List ℕ
+zeroArea = zeros 32768
+
+abbrev pub programAreas : Areas
+programAreas = record { memory = zeroArea; flash = zeroArea }
 
 -- all that a session prints
 unfoldable pub printed : List (List ℕ) → Areas → List ℕ
