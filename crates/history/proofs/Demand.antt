@@ -13,12 +13,14 @@ use Rattle.model.specs.Calls.{Call, format, get, checks, result, replyIf, reply
 use Rattle.model.proofs.Sizes.{page-of-lt, partition-of-lt}
 use Rattle.model.proofs.Tables.{find}
 use Rattle.history.specs.History.{History, heard, note, events, remember}
-use Rattle.history.specs.Claim.{AllFit, isRefused, readBy, Right, Holds, Demand3}
+use Rattle.history.specs.Reads.{readBy}
+use Rattle.history.specs.Claim.{AllFit, isRefused, Right, Holds, Demand3}
 use Rattle.history.proofs.Table.{Part}
 use Rattle.history.proofs.Walk.{live-count}
 use Rattle.history.proofs.Get.{answered, batchesFor, answered-says, answered-reads, batches-live}
 use Rattle.history.proofs.Shows.{ShowsPart}
 use Rattle.history.proofs.Reading.{sought-shown, read-shown, live-falling}
+use Rattle.history.proofs.Following.{follows}
 use Rattle.history.proofs.Checking.{get-checks}
 use Rattle.history.proofs.InStep.{InStep, format-keeps}
 use Rattle.history.proofs.Step.{step}
@@ -49,6 +51,7 @@ module _ (a : Areas) (h : History) (inv : InStep a h) where
           says = rw answers (answered-says g k s (page-of-lt g (inv .shows .ok) k) m b (h .keys k) refl (inv .good .core .keys k));
           reads = rw (answers, answered-reads g k s m b, inv .good .core .lives (partitionOf g k)) (omega (arith, live-count g s (batchesFor g k s m b) (batches-live g k s m b)));
           counts = rw (answers, reads) (answered-reads g k s m b);
+          follows = follows a k;
           batches = rw (reads, inv .shows .geometry, shown .flushes)
               (live-falling g (inv .shows .ok) k _ (a .flash) s shown (suc (s .flushes)) (batchesFor g k s m b) (omega arith) (batches-live g k s m b));
         }

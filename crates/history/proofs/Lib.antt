@@ -16,6 +16,7 @@ pub mod Storing
 pub mod Areas
 pub mod Formatting
 pub mod Reading
+pub mod Following
 pub mod Checking
 pub mod InStep
 pub mod Keyed

@@ -18,7 +18,7 @@ use Rattle.model.specs.Get.{batchPage, hitIn, readThrough, soughtIn, sought}
 use Rattle.model.proofs.Sizes.{page-of-lt}
 use Rattle.model.proofs.Tables.{find}
 use Rattle.model.proofs.Entries.{heldAt}
-use Rattle.history.specs.Claim.{readOf, batchesRead, LiveFalling}
+use Rattle.history.specs.Reads.{readOf, batchesRead, LiveFalling}
 use Rattle.history.proofs.Table.{Part, live, passing as passingOf}
 use Rattle.history.proofs.Walk.{lookIn, answerAt, walk, walkRead, Falling, passing-live}
 use Rattle.history.proofs.Get.{answered, batchesFor}

@@ -1,21 +1,18 @@
 -- Demand 3: one claim about the whole list of calls, whatever its length and order.
 use Prim.Native.Nat.{ℕ, suc, _*_, _^_, _≤_, _<_}
-use mathlib.Core.Bool.{Bool, true, false, cond, not, _&&_}
+use mathlib.Core.Bool.{Bool, true, false}
 use mathlib.Core.Path.{_≡_}
 use mathlib.Core.List.{List, [], _∷_}
 use mathlib.Core.Option.{Option, none, some}
 use lib.ListN.{length}
 use Rattle.model.specs.declared.Geometry.{Geometry}
-use Rattle.model.specs.Search.{isSome}
 use Rattle.model.specs.Geometry.{capacity}
-use Rattle.model.specs.Keys.{partitionOf, pageOf}
-use Rattle.model.specs.Page.{searched, expected}
-use Rattle.model.specs.DeleteList.{listedAt}
-use Rattle.model.specs.Partition.{flushesOf, listedOf, listOf, bufferOf, isLive, passing}
+use Rattle.model.specs.Keys.{partitionOf}
+use Rattle.model.specs.Partition.{flushesOf}
 use Rattle.model.specs.Answers.{Areas, Answer, done, found, absent, shown, refused}
-use Rattle.model.specs.Get.{batchPage}
 use Rattle.model.specs.Calls.{Call, format, put, get, del, flush, view, geometryIn, keyPartition, reply, run}
 use Rattle.history.specs.History.{Known, History, events, remember}
+use Rattle.history.specs.Reads.{readBy, LiveFalling, Follows}
 
 -- Keys and values are numbers of 64 bits. The other arguments may be any numbers.
 abbrev pub Fits : Call → Type 0
@@ -56,35 +53,13 @@ abbrev pub valueOf : Option Known → Option ℕ
 valueOf none = none
 valueOf (some w) = some (w .value)
 
--- Of these batches, those whose page a get of k reads: it goes on past a page that is as it must be and does not hold the key.
-unfoldable pub readOf : Geometry → ℕ → List ℕ → List ℕ → List ℕ
-readOf g k f [] = []
-readOf g k f (n ∷ ns) =
-    let page : List ℕ = batchPage g (partitionOf g k) f n (pageOf g k) in
-    n ∷ cond (expected g (partitionOf g k) n (pageOf g k) page && not (isSome (searched k page))) (readOf g k f ns) []
-
--- None for a listed key, and none for a key in its buffer page. Otherwise it goes through the live batches whose filter passes.
-unfoldable pub batchesRead : Geometry → ℕ → List ℕ → List ℕ → List ℕ
-batchesRead g k p f =
-    cond (isSome (listedAt (listedOf p) k (listOf g p))) []
-    (cond (isSome (searched k (bufferOf g p (pageOf g k)))) []
-    (readOf g k f (passing g k p)))
-
--- the numbers of the batches whose page a get of k reads, in order
-abbrev pub readBy : Areas → ℕ → List ℕ
-readBy a k = batchesRead (geometryIn a) k (keyPartition a k) (a .flash)
-
--- live batches of the partition with the bytes p, each below the one before, all below `high`: none stands twice
-abbrev pub LiveFalling : Geometry → List ℕ → ℕ → List ℕ → Type 0
-LiveFalling g p high [] = Unit {0}
-LiveFalling g p high (n ∷ ns) = (n < high) × (isLive g p n ≡ true) × LiveFalling g p n ns
-
 -- A get of any key is accepted. It gives the history's value for that key, and none exactly when the history has no such key.
--- Its reads are at most the live number of the key's partition, and at most one page of each live batch.
+-- Its reads are at most the live number of the key's partition, and at most one page of each live batch; its answer follows from the batches read.
 pub record Right (a : Areas) (h : History) (k : ℕ) : Type 0 where
   pub says : said (reply a (get k)) ≡ some (valueOf (h .keys k))
   pub reads : readsOf (reply a (get k)) ≤ h .live (partitionOf (h .geometry) k)
   pub counts : readsOf (reply a (get k)) ≡ length (readBy a k)
+  pub follows : Follows a k (reply a (get k)) (readBy a k)
   pub batches : LiveFalling (geometryIn a) (keyPartition a k) (suc (flushesOf (keyPartition a k))) (readBy a k)
 
 -- And put pages × E is at most Q × puts.

@@ -1,0 +1,64 @@
+-- A get's answer follows from the batches that it reads, on areas of any content.
+use Prim.Native.Nat.{ℕ, zero, suc, _+_, _-_}
+use mathlib.Core.Bool.{Bool, true, false, cond, not, _&&_}
+use mathlib.Core.Path.{_≡_, refl}
+use mathlib.Core.List.{List, [], _∷_, _++_, append-assoc, append-nil}
+use mathlib.Core.Option.{Option, none, some}
+use Rattle.model.specs.declared.Geometry.{Geometry}
+use Rattle.model.specs.Search.{isSome}
+use Rattle.model.specs.Keys.{partitionOf, pageOf}
+use Rattle.model.specs.Page.{searched, expected}
+use Rattle.model.specs.DeleteList.{listedAt}
+use Rattle.model.specs.Partition.{flushesOf, listedOf, listOf, bufferOf, live, passingFrom, passing}
+use Rattle.model.specs.Answers.{Areas, Answer, refused, buffer, batch}
+use Rattle.model.specs.Get.{batchPage, hitIn, readThrough, soughtIn, sought}
+use Rattle.model.specs.Calls.{get, geometryIn, keyPartition, checks, result, replyIf, reply}
+use Rattle.model.proofs.Tables.{either}
+use Rattle.history.specs.Reads.{readOf, batchesRead, readBy, isPassed, heldIn, AllLack, Follows}
+
+module _ (a : Areas) (k : ℕ) where
+  abbrev g : Geometry
+  g = geometryIn a
+
+  abbrev p : List ℕ
+  p = keyPartition a k
+
+  abbrev page : ℕ → List ℕ
+  page n = batchPage g (partitionOf g k) (a .flash) n (pageOf g k)
+
+  lack-one-more : (ns : List ℕ) (n : ℕ) → AllLack a k ns → isPassed a k n ≡ true → heldIn a k n ≡ none → AllLack a k (ns ++ n ∷ [])
+  lack-one-more [] n lacking passed lacks = (passed, lacks, tt)
+  lack-one-more (m ∷ ms) n lacking passed lacks = (lacking .0, lacking .1, lack-one-more ms n (lacking .2) passed lacks)
+
+  -- Batch n's page is read behind batches that all lack the key. They are carried along, so that nothing is ever put in front of a later answer's batches.
+  module _ (n : ℕ) (before : List ℕ) (lacking : AllLack a k before) (passed : isPassed a k n ≡ true) (reads : ℕ) (later : Answer) (rest : List ℕ) where
+    page-read : (AllLack a k (before ++ n ∷ []) → Follows a k later ((before ++ n ∷ []) ++ rest)) → (b : Bool) (o : Option ℕ) → searched k (page n) ≡ o
+        → Follows a k (cond b (hitIn (page n) reads (batch n) o later) (refused 13 reads)) (before ++ n ∷ cond (b && not (isSome o)) rest [])
+    page-read goes-on false o e = tt
+    page-read goes-on true (some i) e = record { before = before; last = refl; lacking = lacking; passed = passed; holds = rw e }
+    page-read goes-on true none e = rw (← append-assoc before (n ∷ []) rest) (goes-on (lack-one-more before n lacking passed (rw e)))
+
+  walked : (count n reads : ℕ) (before : List ℕ) → AllLack a k before
+      → Follows a k (readThrough g k (a .flash) (passingFrom g k p count n) reads) (before ++ readOf g k (a .flash) (passingFrom g k p count n))
+  unfolding readThrough readOf passingFrom
+  walked zero n reads before lacking = rw append-nil lacking
+  walked (suc count) n reads before lacking = either (isPassed a k n)
+      (λ passed. simp passed (page-read n before lacking passed (reads + 1) _ _ (walked count (n - 1) (reads + 1) (before ++ n ∷ []))
+      (expected g (partitionOf g k) n (pageOf g k) (page n)) (searched k (page n)) refl))
+      (λ skipped. simp skipped (walked count (n - 1) reads before lacking))
+
+  in-buffer : (o : Option ℕ) → Follows a k (hitIn (bufferOf g p (pageOf g k)) 0 buffer o (readThrough g k (a .flash) (passing g k p) 0))
+      (cond (isSome o) [] (readOf g k (a .flash) (passing g k p)))
+  unfolding passing
+  in-buffer (some i) = refl
+  in-buffer none = walked (live g p) (flushesOf p) 0 [] tt
+
+  pub follows : Follows a k (reply a (get k)) (readBy a k)
+  unfolding reply result sought batchesRead
+  follows = go (checks a (get k)) (listedAt (listedOf p) k (listOf g p))
+    where
+      go : (c l : Option ℕ) → Follows a k (replyIf c (soughtIn l g k p (a .flash)))
+          (cond (isSome l) [] (cond (isSome (searched k (bufferOf g p (pageOf g k)))) [] (readOf g k (a .flash) (passing g k p))))
+      go (some n) l = tt
+      go none (some i) = tt
+      go none none = in-buffer (searched k (bufferOf g p (pageOf g k)))
