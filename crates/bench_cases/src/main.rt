@@ -1,4 +1,4 @@
-// The ten bench cases of document 01, run on the proved crates: a line each, with what the paper says of the case.
+// The ten bench cases of document 01, run on the proved crates: a line each, with what the paper says of the case. Then a line of views.
 mod say;
 
 use model::Geometry;
@@ -141,6 +141,24 @@ fn case_10() {
     say::answer(index::get(&[0u8; 32768], &[0u8; 32768], 1));
 }
 
+// Where the first page of this flush number is, and the page itself. One lifetime for both areas: the prover covers no meet of two.
+fn view<'a>(memory: &'a [u8], flash: &'a [u8], flush: u32) {
+    say::outcome(index::view_outcome(memory, flash, 0, 0, flush));
+    say::page(index::view(memory, flash, 0, 0, flush));
+}
+
+// A key's page in the buffer and, after a flush, in flash; the page of a batch that is not there.
+fn views() {
+    let mut memory = [0u8; 144];
+    let mut flash = [0u8; 128];
+    index::format(&mut memory, &flash, g());
+    index::put(&mut memory, &mut flash, 1, 10);
+    view(&memory, &flash, 0);
+    index::flush(&mut memory, &mut flash, 0);
+    view(&memory, &flash, 1);
+    view(&memory, &flash, 9);
+}
+
 fn main() {
     say::text(b"case 1:");
     case_1();
@@ -162,5 +180,7 @@ fn main() {
     case_9();
     say::text(b"\ncase 10:");
     case_10();
+    say::text(b"\nview:");
+    views();
     say::text(b"\n");
 }

@@ -1,8 +1,10 @@
 // The six calls on memory and flash of any length and content. Each but format opens the table first; what it does then stands in the crate of its name.
+ghost use denote.Ref.{ptr};
 ghost use mathlib.Core.Path.{_≡_};
 ghost use Rattle.model.specs.Calls.{Call, bytesShown};
 ghost use Rattle.answers.specs.Told.{written, answered, viewed};
 ghost use Rattle.answers.specs.Performs.{areas, Performs, Inside};
+ghost use Rattle.index.specs.Place.{placeShown};
 use answers::Answer;
 use answers::Refusal;
 use answers::Viewed;
@@ -86,6 +88,7 @@ pub fn view<'a>(
     flush: u32,
 ) -> &'a [u8]
     ensures { λ r. ⌜ now r ≡ bytesShown (areas (now (memory .entry)) (now (flash .entry))) partition page flush ⌝ }
+    ensures { λ r. ⌜ ptr r ≡ placeShown (ptr (memory .entry)) (ptr (flash .entry)) (areas (now (memory .entry)) (now (flash .entry))) partition page flush ⌝ }
 {
     match view_outcome(memory, flash, partition, page, flush) {
         Viewed::Memory(at, size) => {

@@ -1,0 +1,37 @@
+-- Demand 3 about the calls themselves: their promises, one after another, are the definitions of the whole list.
+use Prim.Native.Nat.{ℕ}
+use mathlib.Core.List.{List, [], _∷_}
+use mathlib.Core.Path.{_≡_, refl, sym, _∙_, ap, ap₂}
+use Rattle.model.specs.Answers.{Areas, Answer}
+use Rattle.model.specs.Calls.{Call, reply, after, run, replies}
+use Rattle.history.specs.History.{heard, events}
+use Rattle.history.specs.Claim.{isRefused, Demand3}
+use Rattle.history.proofs.Demand.{demand3}
+use Rattle.answers.specs.Performs.{areas}
+use Rattle.index.specs.Chain.{Performed, none, next, heardOf, CallsKeepDemand3}
+
+chain-answers : {cs : List Call} {m f m′ f′ : List ℕ} {rs : List Answer} → Performed cs m f rs m′ f′ → rs ≡ replies (areas m f) cs
+unfolding replies
+chain-answers none = refl
+chain-answers (next {cs = cs} p ps) = ap₂ _∷_ (p .answers) (chain-answers ps ∙ ap (λ a. replies a cs) (p .leaves))
+
+chain-leaves : {cs : List Call} {m f m′ f′ : List ℕ} {rs : List Answer} → Performed cs m f rs m′ f′ → areas m′ f′ ≡ run (areas m f) cs
+unfolding run
+chain-leaves none = refl
+chain-leaves (next {cs = cs} p ps) = chain-leaves ps ∙ ap (λ a. run a cs) (p .leaves)
+
+heard-events : (cs : List Call) (a : Areas) → heardOf cs (replies a cs) ≡ events a cs
+unfolding heardOf replies events
+heard-events [] a = refl
+heard-events (c ∷ cs) a = ap (λ es. heard c (reply a c) ∷ es) (heard-events cs (after a c))
+
+pub calls-keep-demand3 : CallsKeepDemand3
+unfolding CallsKeepDemand3 Demand3
+calls-keep-demand3 m f m′ f′ h g cs r rs (next p ps) accepted fits =
+    let told = chain-answers (next p ps) in
+    let left = chain-leaves (next p ps) in
+    record {
+      answers = told;
+      leaves = left;
+      holds = rw (left, told, heard-events) (demand3 (areas m f) h g (sym (ap isRefused (p .answers)) ∙ accepted) cs fits);
+    }
