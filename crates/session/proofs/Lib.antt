@@ -5,4 +5,5 @@ pub mod Running
 pub mod Longest
 pub mod Cutting
 pub mod Keeping
+pub mod Taking
 pub mod RoundTrip

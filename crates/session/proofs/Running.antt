@@ -38,7 +38,7 @@ module _ (xs : List ℕ) (from end : ℕ) (e : LineEnd xs from end) (l : end < l
   abbrev line : List ℕ
   line = mid from (end - from) xs
 
-  line-unended : Unended 0 line
+  pub line-unended : Unended 0 line
   line-unended i g k h =
       let n : length line ≡ end - from = length-mid from (end - from) xs (omega (arith, e .begins)) in
       e .inside (from + i) (omega arith) (omega arith) (sym (getD-mid from (end - from) xs i (omega arith)) ∙ h)

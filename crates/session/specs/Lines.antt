@@ -1,7 +1,9 @@
 -- Texts cut at the ends of lines.
 use Prim.Native.Nat.{ℕ, _≤_, _<_}
-use mathlib.Core.List.{List, _++_}
+use mathlib.Core.Bool.{cond}
+use mathlib.Core.List.{List, [], _∷_, _++_}
 use mathlib.Core.Path.{_≡_}
+use lib.Dec.{eqb}
 use lib.ListN.{length, getD}
 use Rattle.model.specs.Answers.{Areas}
 use Rattle.model.specs.Session.{linesOf, printed, left}
@@ -16,6 +18,15 @@ pub record LineEnd (xs : List ℕ) (from end : ℕ) : Type 0 where
   pub within : end ≤ length xs
   pub ends : end < length xs → getD xs end 0 ≡ 10
   pub inside : (i : ℕ) → from ≤ i → i < end → getD xs i 0 ≡ 10 → ⊥
+
+-- the lines of a text that a byte 10 ends: what follows the last such byte is left out
+abbrev pub begunBy : ℕ → List (List ℕ) → List (List ℕ)
+begunBy x [] = []
+begunBy x (l ∷ ls) = (x ∷ l) ∷ ls
+
+unfoldable pub endedLines : List ℕ → List (List ℕ)
+endedLines [] = []
+endedLines (x ∷ xs) = cond (eqb x 10) ([] ∷ endedLines xs) (begunBy x (endedLines xs))
 
 -- no form is as long
 abbrev pub longest : ℕ

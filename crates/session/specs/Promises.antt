@@ -1,12 +1,14 @@
 -- What the session's functions promise, of areas, lines and places of any kind.
-use Prim.Native.Nat.{ℕ, _+_, _≤_, _<_}
-use mathlib.Core.List.{List}
+use Prim.Native.Nat.{ℕ, _+_, _-_, _≤_, _<_}
+use mathlib.Core.Bool.{cond}
+use mathlib.Core.List.{List, [], _∷_}
 use mathlib.Core.Path.{_≡_}
+use lib.Dec.{leb}
 use lib.ListN.{length, take}
 use Rattle.model.specs.Answers.{Areas}
 use Rattle.model.specs.Session.{linePrints, lineLeaves, linesOf, printed, left}
 use Rattle.printer.specs.Puts.{Puts}
-use Rattle.session.specs.Lines.{Unended, Whole}
+use Rattle.session.specs.Lines.{Unended, endedLines, Whole}
 use Rattle.session.specs.declared.Printed.{Printed}
 
 -- room for one more answer; none is longer
@@ -36,8 +38,14 @@ pub record Ran (text : List ℕ) (a : Areas) (before : List ℕ) (n : ℕ) (late
   pub prints : Puts (printed (linesOf text) a) 0 before n later
   pub leaves : a′ ≡ left (linesOf text) a
 
--- a run takes whole lines, all of them unless the room ends
-pub record Takes (taken : ℕ) (input : List ℕ) (n : ℕ) (out : List ℕ) : Type 0 where
+-- The bytes of these lines that a run takes, where so many are free for answers: it takes a line, with the byte 10 that ends it, while there is room for one more answer.
+unfoldable pub takenOf : List (List ℕ) → Areas → ℕ → ℕ
+takenOf [] a free = 0
+takenOf (l ∷ ls) a free = cond (leb room free) (length l + 1 + takenOf ls (lineLeaves l a) (free - length (linePrints l a))) 0
+
+-- a run takes just these bytes: whole lines, all of them unless the room ends
+pub record Takes (taken : ℕ) (input : List ℕ) (a : Areas) (n : ℕ) (out : List ℕ) : Type 0 where
+  pub exactly : taken ≡ takenOf (endedLines input) a (length out)
   pub within : taken ≤ length input
   pub whole : Whole (take taken input)
   pub all : n + room ≤ length out → Unended taken input

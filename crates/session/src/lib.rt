@@ -83,7 +83,7 @@ fn line_end(input: &[u8], from: usize) -> usize
 
 // The whole lines that the input opens with, as far as `out` has room for their answers.
 pub fn run_lines(memory: &mut [u8], flash: &mut [u8], input: &[u8], out: &mut [u8]) -> Progress
-    ensures { λ r. ⌜ Takes (r .taken) (now (input .entry)) (r .printed) (now (out .entry)) ⌝ }
+    ensures { λ r. ⌜ Takes (r .taken) (now (input .entry)) (areas (now (memory .entry)) (now (flash .entry))) (r .printed) (now (out .entry)) ⌝ }
     ensures { λ r. ⌜ Ran (take (r .taken) (now (input .entry))) (areas (now (memory .entry)) (now (flash .entry))) (now (out .entry)) (r .printed) (now (out .exit)) (areas (now (memory .exit)) (now (flash .exit))) ⌝ }
 {
     let mut taken = 0;

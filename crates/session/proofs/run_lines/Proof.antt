@@ -1,15 +1,16 @@
 -- The loop's invariant: what was taken is whole lines, and their run stands in `out` and in both areas.
-use Prim.Native.Nat.{_+_, _-_, _≤_}
+use Prim.Native.Nat.{_+_, _-_, _≤_, _<_}
 use mathlib.Core.Path.{_≡_, refl, sym, _∙_}
 use native.Mathlib.Omega.{arith}
 use lib.ListN.{length, take}
 use borrow.Author.Tests.{leb-true, leb-false}
 use borrow.Author.Needs.{needs}
 use Rattle.answers.specs.Performs.{areas}
-use Rattle.session.specs.Lines.{Whole}
-use Rattle.session.specs.Promises.{room, Ran}
+use Rattle.session.specs.Lines.{endedLines, Whole}
+use Rattle.session.specs.Promises.{room, takenOf, Ran}
 use Rattle.session.proofs.Lines.{whole-none}
 use Rattle.session.proofs.Running.{ran-none, taken-more, ran-more, unended-last}
+use Rattle.session.proofs.Taking.{Goes, goes-none, goes-full, goes-all, goes-more}
 use Rattle.session.proofs.run_lines.Statement.{statement}
 use Rattle.session.proofs.run_lines.Tie as tie
 
@@ -21,24 +22,50 @@ Inv-loop memory₀ flash₀ input out₀ taken₀ printed₀ memory flash out ta
     × (length out ≡ length out₀)
     × Whole (take taken input)
     × Ran (take taken input) (areas memory₀ flash₀) out₀ printed out (areas memory flash)
+    × Goes (takenOf (endedLines input) (areas memory₀ flash₀) (length out₀)) input taken (areas memory flash) (length out₀) printed
 
 abbrev μ-loop : tie.MeasureT-loop
 μ-loop memory₀ flash₀ input out₀ taken₀ printed₀ memory flash out taken printed = length input - taken
 
 loop-holds : tie.Need-loop-holds Inv-loop μ-loop
-loop-holds c = (omega arith, refl, refl, refl, whole-none, ran-none _ _)
+loop-holds c = (omega arith, refl, refl, refl, whole-none, ran-none _ _, goes-none _ _ _)
+
+-- where the loop goes on there is room, and else there is not
+enough : (c : tie.Then1 Inv-loop μ-loop) → c .before .before .before .loop .printed + room ≤ length (c .before .before .before .loop .out)
+enough c = leb-true _ _ (sym (c .before .has-room .ensures) ∙ c .if1 .taken)
+
+full : (c : tie.Else1 Inv-loop μ-loop) → length (c .before .before .before .loop .out) < c .before .before .before .loop .printed + room
+full c = leb-false _ _ (sym (c .before .has-room .ensures) ∙ c .if1 .left)
 
 perform-requires : tie.Need-perform-requires Inv-loop μ-loop
-perform-requires c κs = leb-true _ _ (sym (c .before .before .before .before .before .before .before .has-room .ensures) ∙ c .before .before .before .before .before .before .if1 .taken)
+perform-requires c κs = enough (c .before .before .before .before .before .before)
 
 loop-again : tie.Need-loop-again Inv-loop μ-loop
-loop-again c = (omega arith, omega arith, omega arith, omega arith, taken-more _ _ _ (c .before .before .before .before .before .before .before .before .before .before .before .before .line-end .ensures) (omega arith) (c .before .before .before .before .before .before .before .before .before .before .before .before .before .before .before .before .loop .inv .4), ran-more _ _ _ (c .before .before .before .before .before .before .before .before .before .before .before .before .line-end .ensures) (omega arith) (c .before .before .before .before .before .before .before .before .before .before .before .before .before .before .before .before .loop .inv .4) (c .before .before .before .before .before .before .before .before .before .before .before .before .before .before .before .before .loop .inv .5) (c .before .before .before .before .before .before .perform .ensures))
+loop-again c =
+    let i = c .before .before .before .before .before .before .before .before .before .before .before .before .before .before .before .before .loop .inv in
+    let e = c .before .before .before .before .before .before .before .before .before .before .before .before .line-end .ensures in
+    let p = c .before .before .before .before .before .before .perform .ensures in (
+      omega arith,
+      omega arith,
+      omega arith,
+      omega arith,
+      taken-more _ _ _ e (omega arith) (i .4),
+      ran-more _ _ _ e (omega arith) (i .4) (i .5) p,
+      goes-more (i .6) _ e (omega arith) (omega (arith, enough (c .before .before .before .before .before .before .before .before .before .before .before .before .before))) p,
+    )
 
 returns : tie.Need-returns Inv-loop μ-loop
-returns c = (record { within = c .before .before .before .loop .inv .0; whole = c .before .before .before .loop .inv .4; all = λ h. absurd (omega (arith, h, leb-false (c .before .before .before .loop .printed + room) (length (c .before .before .before .loop .out)) (sym (c .before .has-room .ensures) ∙ c .if1 .left))) }, c .before .before .before .loop .inv .5)
+returns c =
+    let i = c .before .before .before .loop .inv in (
+      record { exactly = goes-full (i .6) (omega (arith, full c)); within = i .0; whole = i .4; all = λ h. absurd (omega (arith, h, full c)) },
+      i .5,
+    )
 
 returns-2 : tie.Need-returns-2 Inv-loop μ-loop
-returns-2 c = (record { within = c .before .before .before .before .before .loop .inv .0; whole = c .before .before .before .before .before .loop .inv .4; all = λ h. unended-last _ _ _ (c .before .line-end .ensures) (omega arith) }, c .before .before .before .before .before .loop .inv .5)
+returns-2 c =
+    let i = c .before .before .before .before .before .loop .inv in
+    let u = unended-last _ _ _ (c .before .line-end .ensures) (omega arith) in
+    (record { exactly = goes-all (i .6) u; within = i .0; whole = i .4; all = λ h. u }, i .5)
 
 pub run-lines-spec : {M : Type 1} → statement M
 run-lines-spec =
