@@ -25,7 +25,7 @@ module _ (xs : List ℕ) (taken : ℕ) (inside : taken ≤ length xs) where
   rest-drop : rest ≡ drop taken xs
   rest-drop = take-all (length xs - taken) (drop taken xs) (rw length-drop (omega arith))
 
-  module _ (r n : ℕ) (o : List ℕ) (t : Takes r rest n o) where
+  module _ (r n : ℕ) (o : List ℕ) {b : Areas} (t : Takes r rest b n o) where
     pub taken-within : taken + r ≤ length xs
     taken-within = omega (arith, t .within, ap length rest-drop, length-drop taken xs)
 

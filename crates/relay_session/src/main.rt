@@ -2,19 +2,40 @@
 ghost use mathlib.Core.Path.{_≡_};
 ghost use Prim.Native.Nat.{_≤_, _<_};
 ghost use lib.ListN.{length, take};
-ghost use Rattle.model.specs.Session.{linesOf, left};
+ghost use Rattle.model.specs.Session.{linesOf, zeroArea, programAreas, left};
 ghost use Rattle.answers.specs.Performs.{areas};
 ghost use Rattle.session.specs.Lines.{Unended, longest};
 ghost use Rattle.session.specs.Promises.{room};
-ghost use Rattle.relay_session.specs.Steps.{ReadOn, WentOn, CarriesOn, Held, HeldOn};
+ghost use Rattle.relay_session.specs.Steps.{ReadOn, WentOn, Held, Kept, Turned, IsSession};
 use libc::STDIN_FILENO;
 use libc::STDOUT_FILENO;
 use session::Printed;
 
-// A place in the input, or the session is over: the input ended, or a read or a write failed.
+// A place in the input; or a read or a write failed, and the session is over.
 enum Step {
     Until(usize),
-    Over,
+    Failed,
+}
+
+// The unfinished line that is held between two reads: input[at..end].
+struct Rest {
+    at: usize,
+    end: usize,
+}
+
+// What a turn comes to: it goes on, the input has ended, or a read or a write failed.
+enum Next {
+    On(Rest),
+    Ended,
+    Failed,
+}
+
+// One of the two areas.
+fn area() -> [u8; 32768]
+    ensures { λ r. ⌜ 32768 ≡ length r ⌝ }
+    ensures { λ r. ⌜ r ≡ zeroArea ⌝ }
+{
+    [0; 32768]
 }
 
 // Reads once, behind what is held; tells where the bytes end then. There is free room, so where they end as before the input has ended.
@@ -24,7 +45,7 @@ fn read_behind(input: &mut [u8], held: usize) -> Step
 {
     let got = libc::read(STDIN_FILENO, &mut input[held..]);
     if got < 0 {
-        return Step::Over;
+        return Step::Failed;
     }
     Step::Until(held + io::count(got, &input[held..]))
 }
@@ -42,7 +63,7 @@ fn run_whole(memory: &mut [u8], flash: &mut [u8], input: &[u8], out: &mut [u8]) 
         }
         let printed = run.printed;
         if !io::write_all(STDOUT_FILENO, &out[..printed]) {
-            return Step::Over;
+            return Step::Failed;
         }
         taken += run.taken;
     }
@@ -64,61 +85,59 @@ fn run_last(memory: &mut [u8], flash: &mut [u8], line: &[u8], out: &mut [u8])
     io::write_all(STDOUT_FILENO, &out[..end]);
 }
 
-// Runs the whole lines of input[..filled], and moves the unfinished line behind them to the start; tells its length there.
-fn run_piece(
-    memory: &mut [u8],
-    flash: &mut [u8],
-    input: &mut [u8],
-    filled: usize,
-    out: &mut [u8],
-) -> Step
-    requires { ⌜ room ≤ length (now out) ⌝ }
-    requires { ⌜ filled ≤ length (now input) ⌝ }
-    ensures { λ r. ⌜ HeldOn r (now (input .exit)) ⌝ }
-    ensures { λ r. ⌜ CarriesOn r (take filled (now (input .entry))) (areas (now (memory .entry)) (now (flash .entry))) (now (input .exit)) (areas (now (memory .exit)) (now (flash .exit))) ⌝ }
+// Moves the unfinished line to the start of the buffer; tells how many bytes are held there.
+fn hold(input: &mut [u8], rest: Rest) -> usize
+    requires { ⌜ Held rest (now input) ⌝ }
+    ensures { λ r. ⌜ Kept r rest (now (input .entry)) (now (input .exit)) ⌝ }
 {
-    let Step::Until(taken) = run_whole(memory, flash, &input[..filled], out) else {
-        return Step::Over;
-    };
-    Step::Until(session::keep_rest(&mut input[..filled], taken))
+    let end = rest.end;
+    session::keep_rest(&mut input[..end], rest.at)
 }
 
-// One piece of input behind the unfinished line that is held; tells how much is held then.
-fn turn(memory: &mut [u8], flash: &mut [u8], input: &mut [u8], held: usize, out: &mut [u8]) -> Step
+// Reads a piece of input behind the unfinished line that is held, and runs the whole lines; tells where the next unfinished line stands.
+fn turn(memory: &mut [u8], flash: &mut [u8], input: &mut [u8], held: usize, out: &mut [u8]) -> Next
     requires { ⌜ room ≤ length (now out) ⌝ }
-    requires { ⌜ longest < length (now input) ⌝ }
-    requires { ⌜ Held held (now input) ⌝ }
-    ensures { λ r. ⌜ HeldOn r (now (input .exit)) ⌝ }
+    requires { ⌜ held < length (now input) ⌝ }
+    requires { ⌜ Unended 0 (take held (now input)) ⌝ }
+    ensures { λ r. ⌜ Turned r (take held (now (input .entry))) (areas (now (memory .entry)) (now (flash .entry))) (now (input .exit)) (areas (now (memory .exit)) (now (flash .exit))) ⌝ }
 {
-    let Step::Until(filled) = read_behind(input, held) else {
-        return Step::Over;
+    let Step::Until(end) = read_behind(input, held) else {
+        return Next::Failed;
     };
-    if filled == held {
+    if end == held {
         run_last(memory, flash, &input[..held], out);
-        return Step::Over;
+        return Next::Ended;
     }
-    run_piece(memory, flash, input, filled, out)
+    let Step::Until(at) = run_whole(memory, flash, &input[..end], out) else {
+        return Next::Failed;
+    };
+    Next::On(Rest { at, end })
 }
 
 // Nothing says that input ends, so turns are counted down from a number that no run uses up.
 fn run(memory: &mut [u8], flash: &mut [u8], input: &mut [u8], out: &mut [u8])
-    requires { ⌜ room ≤ length (now out) ⌝ }
+    requires { ⌜ now memory ≡ zeroArea ⌝ }
+    requires { ⌜ now flash ≡ zeroArea ⌝ }
     requires { ⌜ longest < length (now input) ⌝ }
+    requires { ⌜ room ≤ length (now out) ⌝ }
+    ensures { λ _. ⌜ IsSession programAreas (areas (now (memory .exit)) (now (flash .exit))) ⌝ }
 {
-    let mut held = 0;
+    let mut rest = Rest { at: 0, end: 0 };
     let mut turns = u64::MAX;
     while turns > 0 {
-        let Step::Until(n) = turn(memory, flash, input, held, out) else {
-            return;
-        };
-        held = n;
+        let held = hold(input, rest);
+        match turn(memory, flash, input, held, out) {
+            Next::On(next) => rest = next,
+            Next::Ended => return,
+            Next::Failed => return,
+        }
         turns -= 1;
     }
 }
 
 fn main() {
-    let mut memory = [0u8; 32768];
-    let mut flash = [0u8; 32768];
+    let mut memory = area();
+    let mut flash = area();
     let mut input = io::large_buffer();
     let mut out = io::large_buffer();
     run(&mut memory, &mut flash, &mut input, &mut out);

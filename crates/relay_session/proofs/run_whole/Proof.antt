@@ -1,5 +1,5 @@
 -- The loop's invariant: the lines taken are whole, and both areas are as these leave them.
-use Prim.Native.Nat.{_-_}
+use Prim.Native.Nat.{_+_, _-_, _≤_}
 use mathlib.Core.Path.{_≡_, refl, sym}
 use native.Mathlib.Omega.{arith}
 use lib.ListN.{length}
@@ -30,14 +30,27 @@ slice-reshare-prefix-write-all c = omega (arith, c .before .before .before .befo
 slice-aggregate-write-all : tie.Need-slice-aggregate-write-all Inv-loop μ-loop
 slice-aggregate-write-all c = sym (length-take-le _ _ (slice-reshare-prefix-write-all (c .before)))
 
+-- lines are run before their answers are written
+returns : tie.Need-returns Inv-loop μ-loop
+returns c =
+    let t = c .before .before .before .before .before .before .before .before .before .before .before .run-lines .ensures in
+    let w = c .before .before .before .before .before .before .before .before .before .before .before .before .before .before .before .before .before .loop .inv .3 in
+    record { taken = _; went = went-more _ _ (w .within) _ _ _ (t .0) w (t .1) }
+
+inside : (c : tie.After-struct-known2 Inv-loop μ-loop) → c .before .before .before .before .before .before .before .before .before .before .before .before .before .before .before .before .before .before .loop .taken + c .before .before .before .before .before .before .before .before .before .before .before .before .run-lines .result .taken ≤ length (c .before .before .before .before .before .before .before .before .before .before .before .before .before .before .before .before .before .before .before .before .before .before .before .args .input .now)
+inside c = taken-within (c .before .before .before .before .before .before .before .before .before .before .before .before .before .before .before .before .before .before .before .before .before .before .before .args .input .now) _ (c .before .before .before .before .before .before .before .before .before .before .before .before .before .before .before .before .before .before .loop .inv .3 .within) _ _ _ (c .before .before .before .before .before .before .before .before .before .before .before .before .run-lines .ensures .0)
+
 add-taken : tie.Need-add-taken Inv-loop μ-loop
-add-taken c = omega (arith, taken-within (c .before .before .before .before .before .before .before .before .before .before .before .before .before .before .before .before .before .before .before .before .before .before .before .args .input .now) (c .before .before .before .before .before .before .before .before .before .before .before .before .before .before .before .before .before .before .loop .taken) (c .before .before .before .before .before .before .before .before .before .before .before .before .before .before .before .before .before .before .loop .inv .3 .within) _ _ _ (c .before .before .before .before .before .before .before .before .before .before .before .before .run-lines .ensures .0))
+add-taken c = omega (arith, inside c)
 
 loop-less : tie.Need-loop-less Inv-loop μ-loop
-loop-less c = omega (arith, taken-within (c .before .before .before .before .before .before .before .before .before .before .before .before .before .before .before .before .before .before .before .before .before .before .before .args .input .now) (c .before .before .before .before .before .before .before .before .before .before .before .before .before .before .before .before .before .before .loop .taken) (c .before .before .before .before .before .before .before .before .before .before .before .before .before .before .before .before .before .before .loop .inv .3 .within) _ _ _ (c .before .before .before .before .before .before .before .before .before .before .before .before .run-lines .ensures .0))
+loop-less c = omega (arith, inside c)
 
 loop-again : tie.Need-loop-again Inv-loop μ-loop
-loop-again c = (omega arith, omega arith, omega arith, went-more _ _ (c .before .before .before .before .before .before .before .before .before .before .before .before .before .before .before .before .before .before .loop .inv .3 .within) _ _ _ (c .before .before .before .before .before .before .before .before .before .before .before .before .run-lines .ensures .0) (c .before .before .before .before .before .before .before .before .before .before .before .before .before .before .before .before .before .before .loop .inv .3) (c .before .before .before .before .before .before .before .before .before .before .before .before .run-lines .ensures .1))
+loop-again c =
+    let t = c .before .before .before .before .before .before .before .before .before .before .before .before .run-lines .ensures in
+    let w = c .before .before .before .before .before .before .before .before .before .before .before .before .before .before .before .before .before .before .loop .inv .3 in
+    (omega arith, omega arith, omega arith, went-more _ _ (w .within) _ _ _ (t .0) w (t .1))
 
 returns-2 : tie.Need-returns-2 Inv-loop μ-loop
 returns-2 c = (c .before .loop .inv .3, unended-end (c .before .before .before .before .before .before .args .input .now) _ (c .loop-test .left))
@@ -45,14 +58,14 @@ returns-2 c = (c .before .loop .inv .3, unended-end (c .before .before .before .
 returns-3 : tie.Need-returns-3 Inv-loop μ-loop
 returns-3 c =
     let t = c .before .before .before .before .before .before .before .before .run-lines .ensures in
-    let inside = c .before .before .before .before .before .before .before .before .before .before .before .before .before .before .loop .inv .3 .within in
-    (went-same _ _ inside _ _ _ (t .0) (c .if1 .taken) (c .before .before .before .before .before .before .before .before .before .before .before .before .before .before .loop .inv .3) (t .1), went-all (c .before .before .before .before .before .before .before .before .before .before .before .before .before .before .before .before .before .before .before .args .input .now) _ inside _ _ _ (t .0) (c .if1 .taken) (omega arith) (t .1))
+    let w = c .before .before .before .before .before .before .before .before .before .before .before .before .before .before .loop .inv .3 in
+    (went-same _ _ (w .within) _ _ _ (t .0) (c .if1 .taken) w (t .1), went-all (c .before .before .before .before .before .before .before .before .before .before .before .before .before .before .before .before .before .before .before .args .input .now) _ (w .within) _ _ _ (t .0) (c .if1 .taken) (omega arith) (t .1))
 
 pub run-whole-spec : {M : Type 1} → statement M
 run-whole-spec =
     tie.close
     (tie.spec Inv-loop μ-loop loop-holds (λ c. omega arith) (λ c. omega arith) (λ c. omega arith) (λ c κs. search needs)
     slice-reshare-prefix-write-all slice-aggregate-write-all (λ c κs. search needs)
-    (λ c. omega arith) (λ c. omega arith) (λ c. omega arith) (λ c. tt) add-taken loop-less loop-again
+    (λ c. omega arith) (λ c. omega arith) (λ c. omega arith) returns add-taken loop-less loop-again
     (λ c. omega arith) (λ c. omega arith) (λ c. omega arith) returns-2
     (λ c. omega arith) (λ c. omega arith) (λ c. omega arith) returns-3)
