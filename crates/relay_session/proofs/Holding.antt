@@ -1,6 +1,6 @@
 -- The unfinished line that is held between two reads.
 use Prim.Native.Nat.{ℕ, _≤_, _<_}
-use mathlib.Core.List.{List, [], _++_}
+use mathlib.Core.List.{List, [], _++_, append-nil}
 use mathlib.Core.Path.{_≡_, sym, _∙_, ap}
 use native.Mathlib.Omega.{arith}
 use lib.ListN.{length, take, drop, take-append-drop, length-take, length-drop, length-append}
@@ -17,7 +17,7 @@ use Rattle.relay_session.proofs.Going.{went-none}
 pub held-none : (xs : List ℕ) → Held (record { at = 0; end = 0 }) xs
 held-none xs = record { begins = omega arith; within = omega arith; unended = λ i g l. absurd (omega arith) }
 
--- what the rest of the buffer holds does not matter
+-- moved within its part of the buffer, it stands at the start of the whole
 pub kept : (rest : Rest) (xs ys : List ℕ) (r : ℕ) → Held rest xs → Puts (take longest (heldIn rest xs)) 0 (take (rest .end) xs) r ys → Kept r rest xs (ys ++ drop (rest .end) xs)
 kept rest xs ys r h p =
     let size : length (take (rest .end) xs) ≡ rest .end = length-take-le (rest .end) xs (h .within) in
@@ -47,14 +47,14 @@ module _ {n held : ℕ} {before later : List ℕ} (f : Filled n held before late
   pub carried : {at : ℕ} {a a′ : Areas} → held < n → Went at (take n later) a a′ → Unended at (take n later) → Carries (take held before) a (record { at = at; end = n }) later a′
   carried l w u = record {
     piece = piece;
-    some = rw (length-drop, length-take-le n later (f .within)) (omega arith);
+    nonempty = rw (length-drop, length-take-le n later (f .within)) (omega arith);
     stands = pieces;
     went = rw (sym pieces) w;
     holds = record { begins = omega (arith, w .within, length-take n later); within = f .within; unended = u };
   }
 
-  pub failed : {a a′ : Areas} → WentPartly (take n later) a a′ → Fails (take held before) a a′
-  failed w = record { piece = piece; went = rw (sym pieces) w }
+  pub failed : {a a′ : Areas} → WentPartly (take n later) a a′ → Fails (take held before) a later a′
+  failed w = record { piece = piece; end = n; stands = pieces; went = rw (sym pieces) w }
 
-pub failed-read : (held : List ℕ) (a : Areas) → Fails held a a
-failed-read held a = record { piece = []; went = record { taken = 0; went = went-none _ a } }
+pub failed-read : (held : ℕ) (before later : List ℕ) (a : Areas) → take held later ≡ take held before → Fails (take held before) a later a
+failed-read held before later a e = record { piece = []; end = held; stands = e ∙ sym (append-nil _); went = record { taken = 0; went = went-none _ a } }

@@ -11,7 +11,7 @@ use Rattle.session.proofs.Pieces.{left-pieces}
 use Rattle.relay_session.specs.declared.Rest.{Rest}
 use Rattle.relay_session.specs.Steps.{Went, heldIn, Carries, Fails, IsSession}
 
--- on the areas a′ the bytes that are held do what the text does on a, whatever follows
+-- The lines were run on a and left a′. There the bytes that are held do what the whole text does on a, whatever follows.
 pub record Reached (rest : Rest) (input : List ℕ) (a a′ : Areas) : Type 0 where
   pub lines : List ℕ
   pub whole : Whole lines
@@ -53,5 +53,5 @@ module _ {rest : Rest} {xs : List ℕ} {a a₁ : Areas} (r : Reached rest xs a a
     pub ends : {a₂ : Areas} → a₂ ≡ left (linesOf held) a₁ → IsSession a a₂
     ends e = record { text = r .text; leaves = e ∙ (rw (append-nil, append-nil) at (follows [])) }
 
-    pub fails : {a₂ : Areas} → Fails held a₁ a₂ → IsSession a a₂
+    pub fails : {ys : List ℕ} {a₂ : Areas} → Fails held a₁ ys a₂ → IsSession a a₂
     fails f = record { text = _; leaves = runs (f .went .went) }

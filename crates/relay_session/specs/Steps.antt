@@ -18,7 +18,7 @@ pub record Filled (n held : ℕ) (before later : List ℕ) : Type 0 where
 
 abbrev pub ReadOn : Step → ℕ → List ℕ → List ℕ → Type 0
 ReadOn (Step.Until n) held before later = Filled n held before later
-ReadOn Step.Failed held before later = Unit {0}
+ReadOn Step.Failed held before later = take held later ≡ take held before
 
 -- the lines up to `taken` are whole, and the areas are as these lines leave them
 pub record Went (taken : ℕ) (text : List ℕ) (a a′ : Areas) : Type 0 where
@@ -26,7 +26,7 @@ pub record Went (taken : ℕ) (text : List ℕ) (a a′ : Areas) : Type 0 where
   pub whole : Whole (take taken text)
   pub leaves : a′ ≡ left (linesOf (take taken text)) a
 
--- a read or a write failed: some whole lines at the start of the text were run
+-- a write failed: some whole lines at the start of the text were run
 pub record WentPartly (text : List ℕ) (a a′ : Areas) : Type 0 where
   pub taken : ℕ
   pub went : Went taken text a a′
@@ -53,21 +53,23 @@ pub record Kept (n : ℕ) (rest : Rest) (before later : List ℕ) : Type 0 where
 -- A piece was read, not an empty one, and stands in the buffer behind what was held. The whole lines of the two were run, and what is left of them is held.
 pub record Carries (held : List ℕ) (a : Areas) (rest : Rest) (later : List ℕ) (a′ : Areas) : Type 0 where
   pub piece : List ℕ
-  pub some : 0 < length piece
+  pub nonempty : 0 < length piece
   pub stands : take (rest .end) later ≡ held ++ piece
   pub went : Went (rest .at) (held ++ piece) a a′
   pub holds : Held rest later
 
--- a read or a write failed: some of the whole lines were run
-pub record Fails (held : List ℕ) (a a′ : Areas) : Type 0 where
+-- A read or a write failed: of what was held and a piece, which stand in the buffer up to `end`, some of the whole lines were run.
+pub record Fails (held : List ℕ) (a : Areas) (later : List ℕ) (a′ : Areas) : Type 0 where
   pub piece : List ℕ
+  pub end : ℕ
+  pub stands : take end later ≡ held ++ piece
   pub went : WentPartly (held ++ piece) a a′
 
 -- a turn that begins with the bytes held; where the input has ended these are the last line
 abbrev pub Turned : Next → List ℕ → Areas → List ℕ → Areas → Type 0
 Turned (Next.On rest) held a later a′ = Carries held a rest later a′
 Turned Next.Ended held a later a′ = a′ ≡ left (linesOf held) a
-Turned Next.Failed held a later a′ = Fails held a a′
+Turned Next.Failed held a later a′ = Fails held a later a′
 
 -- The areas are as the session of some text leaves them. It is what was read or, where a read or a write failed, the lines that were run until then; but no contract can tell it from another text.
 pub record IsSession (a a′ : Areas) : Type 0 where

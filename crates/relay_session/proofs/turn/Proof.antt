@@ -8,7 +8,10 @@ use Rattle.relay_session.proofs.turn.Statement.{statement}
 use Rattle.relay_session.proofs.turn.Tie as tie
 
 returns : tie.Need-returns
-returns c = failed-read _ _
+returns c =
+    let s = c .before .before .before .before in
+    let a = s .before .before .before .before .before .before .args in
+    failed-read (a .held) (a .input .now) _ _ (rw (c .enum-told .given .1) at (s .read-behind .ensures))
 
 slice-aggregate-run-last : tie.Need-slice-aggregate-run-last
 slice-aggregate-run-last c = sym (length-take-le _ _ (omega arith))
