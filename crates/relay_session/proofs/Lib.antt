@@ -1,3 +1,4 @@
 pub mod Going
 pub mod Holding
+pub mod Getting
 pub mod Reaching

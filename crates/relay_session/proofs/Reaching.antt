@@ -1,15 +1,21 @@
 -- How far a session has come: the lines that were run, and the text that was read.
-use Prim.Native.Nat.{ℕ}
+use Prim.Native.Nat.{ℕ, _-_, _≤_, _<_}
 use mathlib.Core.List.{List, [], _++_, append-assoc, append-nil}
 use mathlib.Core.Path.{_≡_, refl, sym, _∙_, ap}
-use lib.ListN.{take, drop, take-append-drop}
+use native.Mathlib.Omega.{arith}
+use lib.ListN.{length, take, drop, take-append-drop, length-take}
+use lib.Seq.{take-take}
 use Rattle.model.specs.Answers.{Areas}
 use Rattle.model.specs.Session.{linesOf, left}
-use Rattle.session.specs.Lines.{Whole, Same}
+use Rattle.session.specs.Lines.{Whole, longest}
 use Rattle.session.proofs.Lines.{whole-none, whole-more}
 use Rattle.session.proofs.Pieces.{left-pieces}
 use Rattle.relay_session.specs.declared.Rest.{Rest}
-use Rattle.relay_session.specs.Steps.{Went, heldIn, Carries, Fails, IsSession}
+use Rattle.relay_session.specs.declared.Got.{Got}
+use Rattle.relay_session.specs.declared.Next.{Next}
+use Rattle.relay_session.specs.Steps.{Went, Held, heldIn, Kept, gotOf, Answers, Within, Turned, IsSession}
+use Rattle.relay_session.proofs.Getting.{got-within}
+use Rattle.relay_session.proofs.Holding.{kept-short, kept-same}
 
 -- The lines were run on a and left a′. There the bytes that are held do what the whole text does on a, whatever follows.
 pub record Reached (rest : Rest) (input : List ℕ) (a a′ : Areas) : Type 0 where
@@ -37,21 +43,51 @@ module _ {rest : Rest} {xs : List ℕ} {a a₁ : Areas} (r : Reached rest xs a a
   pub stops : IsSession a a₁
   stops = record { text = r .lines; leaves = r .leaves }
 
-  module _ {held : List ℕ} (same : Same (heldIn rest xs) held) where
-    follows : (more : List ℕ) → left (linesOf (held ++ more)) a₁ ≡ left (linesOf (r .text ++ more)) a
-    follows more = same .leaves more a₁ ∙ r .carries more
+  -- what is held stands at the start of the buffer, and a turn goes on from there
+  module _ {n : ℕ} {ys : List ℕ} (k : Kept n rest xs ys) (h : Held rest xs) where
+    follows : (more : List ℕ) → left (linesOf (take n ys ++ more)) a₁ ≡ left (linesOf (r .text ++ more)) a
+    follows more = kept-same k h .leaves more a₁ ∙ r .carries more
 
-    pub goes : {rest′ : Rest} {ys : List ℕ} {a₂ : Areas} → Carries held a₁ rest′ ys a₂ → Reached rest′ ys a a₂
-    goes {rest′} {ys} c = record {
-      lines = r .lines ++ take (rest′ .at) (held ++ c .piece);
-      whole = whole-more (r .lines) _ (r .whole) (c .went .whole);
-      leaves = runs (c .went);
-      text = r .text ++ c .piece;
-      carries = λ more. rw (c .stands, goes-on (c .went) more, append-assoc held, append-assoc (r .text)) (follows (c .piece ++ more));
-    }
+    -- the bytes up to `end` are those held and a piece
+    pieces : (later : List ℕ) → take n later ≡ take n ys → (end : ℕ) → n ≤ end → take end later ≡ take n ys ++ drop n (take end later)
+    pieces later keeps end l = sym (take-append-drop n (take end later)) ∙ ap (λ (zs : List ℕ). zs ++ drop n (take end later)) (take-take n end later l ∙ keeps)
 
-    pub ends : {a₂ : Areas} → a₂ ≡ left (linesOf held) a₁ → IsSession a a₂
-    ends e = record { text = r .text; leaves = e ∙ (rw (append-nil, append-nil) at (follows [])) }
+    reaches : (later : List ℕ) → take n later ≡ take n ys → (rest′ : Rest) → n ≤ rest′ .end → {a₂ : Areas} → Went (rest′ .at) (take (rest′ .end) later) a₁ a₂ → Reached rest′ later a a₂
+    reaches later keeps rest′ l w =
+        let piece : List ℕ = drop n (take (rest′ .end) later) in
+        record {
+          lines = r .lines ++ take (rest′ .at) (take (rest′ .end) later);
+          whole = whole-more (r .lines) _ (r .whole) (w .whole);
+          leaves = runs w;
+          text = r .text ++ piece;
+          carries = λ more. goes-on w more ∙ ap (λ (zs : List ℕ). left (linesOf (zs ++ more)) a₁) (pieces later keeps (rest′ .end) l) ∙ rw (append-assoc (take n ys), append-assoc (r .text)) (follows (piece ++ more));
+        }
 
-    pub fails : {ys : List ℕ} {a₂ : Areas} → Fails held a₁ ys a₂ → IsSession a a₂
-    fails f = record { text = _; leaves = runs (f .went .went) }
+    pub goes : {rest′ : Rest} {later : List ℕ} {a₂ : Areas} → longest < length later → Turned (Next.On rest′) n ys a₁ later a₂ → Reached rest′ later a a₂ × Held rest′ later
+    goes {rest′} {later} {a₂} l t = go (gotOf (t .answer) (length later - n)) (got-within (t .answer) (length later - n)) (t .answers)
+      where
+        go : (got : Got) → Within got (length later - n) → Answers got (Next.On rest′) n later a₁ a₂ → Reached rest′ later a a₂ × Held rest′ later
+        go Got.Failure m t = let z : _≡_ {A = ℕ} 0 1 = cc in absurd (omega arith)
+        go Got.End m t = let z : _≡_ {A = ℕ} 0 1 = cc in absurd (omega arith)
+        go (Got.Bytes b) m e =
+            let w = rw (sym (e .0)) at (e .1) in
+            let u = rw (sym (e .0)) at (e .2) in (
+              reaches later (t .keeps) rest′ (omega (arith, e .0)) w,
+              record { begins = omega (arith, w .within, length-take (rest′ .end) later); within = omega (arith, e .0, m, kept-short k h); unended = u },
+            )
+
+    pub ends : {later : List ℕ} {a₂ : Areas} → Turned Next.Ended n ys a₁ later a₂ → IsSession a a₂
+    ends {later} {a₂} t = go (gotOf (t .answer) (length later - n)) (t .answers)
+      where
+        go : (got : Got) → Answers got Next.Ended n later a₁ a₂ → IsSession a a₂
+        go Got.Failure e = let z : _≡_ {A = ℕ} 0 1 = cc in absurd (omega arith)
+        go Got.End e = record { text = r .text; leaves = e .1 ∙ rw (t .keeps) (rw (append-nil, append-nil) at (follows [])) }
+        go (Got.Bytes b) e = absurd e
+
+    pub fails : {later : List ℕ} {a₂ : Areas} → Turned Next.Failed n ys a₁ later a₂ → IsSession a a₂
+    fails {later} {a₂} t = go (gotOf (t .answer) (length later - n)) (t .answers)
+      where
+        go : (got : Got) → Answers got Next.Failed n later a₁ a₂ → IsSession a a₂
+        go Got.Failure e = record { text = r .lines; leaves = e .1 ∙ r .leaves }
+        go Got.End e = let z : _≡_ {A = ℕ} 0 1 = cc in absurd (omega arith)
+        go (Got.Bytes b) e = record { text = _; leaves = runs (e .went) }

@@ -1,24 +1,16 @@
 -- What the steps of the program promise. What was read and what was written no contract can say; what stands in the buffers and in both areas is said here.
-use Prim.Native.Nat.{ℕ, _≤_, _<_}
-use mathlib.Core.List.{List, _++_}
+use Prim.Native.Nat.{ℕ, zero, suc, _+_, _-_, _≤_, min}
+use mathlib.Core.List.{List}
 use mathlib.Core.Path.{_≡_}
+use lib.IntN.{ℤ, pos, negsuc}
 use lib.ListN.{length, take, drop}
 use Rattle.model.specs.Answers.{Areas}
 use Rattle.model.specs.Session.{linesOf, left}
 use Rattle.session.specs.Lines.{Unended, longest, Whole}
 use Rattle.relay_session.specs.declared.Rest.{Rest}
 use Rattle.relay_session.specs.declared.Step.{Step}
+use Rattle.relay_session.specs.declared.Got.{Got}
 use Rattle.relay_session.specs.declared.Next.{Next}
-
--- bytes were read behind the first `held`, up to n
-pub record Filled (n held : ℕ) (before later : List ℕ) : Type 0 where
-  pub begins : held ≤ n
-  pub within : n ≤ length later
-  pub keeps : take held later ≡ take held before
-
-abbrev pub ReadOn : Step → ℕ → List ℕ → List ℕ → Type 0
-ReadOn (Step.Until n) held before later = Filled n held before later
-ReadOn Step.Failed held before later = take held later ≡ take held before
 
 -- the lines up to `taken` are whole, and the areas are as these lines leave them
 pub record Went (taken : ℕ) (text : List ℕ) (a a′ : Areas) : Type 0 where
@@ -50,26 +42,37 @@ pub record Kept (n : ℕ) (rest : Rest) (before later : List ℕ) : Type 0 where
   pub within : n ≤ length later
   pub stands : take n later ≡ take longest (heldIn rest before)
 
--- A piece was read, not an empty one, and stands in the buffer behind what was held. The whole lines of the two were run, and what is left of them is held.
-pub record Carries (held : List ℕ) (a : Areas) (rest : Rest) (later : List ℕ) (a′ : Areas) : Type 0 where
-  pub piece : List ℕ
-  pub nonempty : 0 < length piece
-  pub stands : take (rest .end) later ≡ held ++ piece
-  pub went : Went (rest .at) (held ++ piece) a a′
-  pub holds : Held rest later
+-- what a read's answer means, where there was free room for n bytes: it failed, the input has ended, or so many bytes came
+abbrev pub cameOf : ℕ → Got
+cameOf zero = Got.End
+cameOf (suc n) = Got.Bytes (suc n)
 
--- A read or a write failed: of what was held and a piece, which stand in the buffer up to `end`, some of the whole lines were run.
-pub record Fails (held : List ℕ) (a : Areas) (later : List ℕ) (a′ : Areas) : Type 0 where
-  pub piece : List ℕ
-  pub end : ℕ
-  pub stands : take end later ≡ held ++ piece
-  pub went : WentPartly (held ++ piece) a a′
+abbrev pub gotOf : ℤ → ℕ → Got
+gotOf (negsuc k) n = Got.Failure
+gotOf (pos k) n = cameOf (min k n)
 
--- a turn that begins with the bytes held; where the input has ended these are the last line
-abbrev pub Turned : Next → List ℕ → Areas → List ℕ → Areas → Type 0
-Turned (Next.On rest) held a later a′ = Carries held a rest later a′
-Turned Next.Ended held a later a′ = a′ ≡ left (linesOf held) a
-Turned Next.Failed held a later a′ = Fails held a later a′
+-- The text now ends at `end`: its whole lines were run and the rest is held, or a write failed.
+abbrev pub RunsTo : ℕ → Next → List ℕ → Areas → Areas → Type 0
+RunsTo end (Next.On rest) input a a′ = (rest .end ≡ end) × Went (rest .at) (take end input) a a′ × Unended (rest .at) (take end input)
+RunsTo end Next.Ended input a a′ = ⊥
+RunsTo end Next.Failed input a a′ = WentPartly (take end input) a a′
+
+-- What is made of it, behind the bytes held: nothing after a failure; at the end of input, what is held is the last line; bytes that came are run.
+abbrev pub Answers : Got → Next → ℕ → List ℕ → Areas → Areas → Type 0
+Answers Got.Failure r held input a a′ = (r ≡ Next.Failed) × (a′ ≡ a)
+Answers Got.End r held input a a′ = (r ≡ Next.Ended) × (a′ ≡ left (linesOf (take held input)) a)
+Answers (Got.Bytes n) r held input a a′ = RunsTo (held + n) r input a a′
+
+abbrev pub Within : Got → ℕ → Type 0
+Within (Got.Bytes n) most = n ≤ most
+Within Got.End most = Unit {0}
+Within Got.Failure most = Unit {0}
+
+-- a turn: a read answered this, and left the bytes held as they were
+pub record Turned (r : Next) (held : ℕ) (before : List ℕ) (a : Areas) (later : List ℕ) (a′ : Areas) : Type 0 where
+  pub answer : ℤ
+  pub keeps : take held later ≡ take held before
+  pub answers : Answers (gotOf answer (length later - held)) r held later a a′
 
 -- The areas are as the session of some text leaves them. It is what was read or, where a read or a write failed, the lines that were run until then; but no contract can tell it from another text.
 pub record IsSession (a a′ : Areas) : Type 0 where

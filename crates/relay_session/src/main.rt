@@ -1,17 +1,17 @@
 // The session program: forms from standard input, one a line, over two areas of 32,768 zero bytes; answers to standard output.
 ghost use mathlib.Core.Path.{_≡_};
-ghost use Prim.Native.Nat.{_≤_, _<_};
+ghost use Prim.Native.Nat.{_-_, _≤_, _<_};
 ghost use lib.ListN.{length, take};
 ghost use Rattle.model.specs.Session.{linesOf, zeroArea, programAreas, left};
 ghost use Rattle.answers.specs.Performs.{areas};
 ghost use Rattle.session.specs.Lines.{Unended, longest};
 ghost use Rattle.session.specs.Promises.{room};
-ghost use Rattle.relay_session.specs.Steps.{ReadOn, WentOn, Held, Kept, Turned, IsSession};
+ghost use Rattle.relay_session.specs.Steps.{WentOn, Held, Kept, gotOf, Answers, Within, Turned, IsSession};
 use libc::STDIN_FILENO;
 use libc::STDOUT_FILENO;
 use session::Printed;
 
-// A place in the input; or a read or a write failed, and the session is over.
+// Where an unfinished line begins; or a write failed, and the session is over.
 enum Step {
     Until(usize),
     Failed,
@@ -21,6 +21,13 @@ enum Step {
 struct Rest {
     at: usize,
     end: usize,
+}
+
+// What a read told: so many bytes came, the input has ended, or it failed.
+enum Got {
+    Bytes(usize),
+    End,
+    Failure,
 }
 
 // What a turn comes to: it goes on, the input has ended, or a read or a write failed.
@@ -36,18 +43,6 @@ fn area() -> [u8; 32768]
     ensures { λ r. ⌜ r ≡ zeroArea ⌝ }
 {
     [0; 32768]
-}
-
-// Reads once, behind what is held; tells where the bytes end then. There is free room, so where they end as before the input has ended.
-fn read_behind(input: &mut [u8], held: usize) -> Step
-    requires { ⌜ held < length (now input) ⌝ }
-    ensures { λ r. ⌜ ReadOn r held (now (input .entry)) (now (input .exit)) ⌝ }
-{
-    let got = libc::read(STDIN_FILENO, &mut input[held..]);
-    if got < 0 {
-        return Step::Failed;
-    }
-    Step::Until(held + io::count(got, &input[held..]))
 }
 
 // Runs the whole lines and writes their answers, again where the room for these ends early; tells where an unfinished line begins.
@@ -94,24 +89,69 @@ fn hold(input: &mut [u8], rest: Rest) -> usize
     session::keep_rest(&mut input[..end], rest.at)
 }
 
-// Reads a piece of input behind the unfinished line that is held, and runs the whole lines; tells where the next unfinished line stands.
+// Reads once, behind the bytes that are held.
+fn read_behind(input: &mut [u8], held: usize) -> isize
+    requires { ⌜ held < length (now input) ⌝ }
+    ensures { λ _. ⌜ take held (now (input .exit)) ≡ take held (now (input .entry)) ⌝ }
+{
+    libc::read(STDIN_FILENO, &mut input[held..])
+}
+
+// What a read's answer means, of the free room that it was handed.
+fn got_of(answer: isize, free: &[u8]) -> Got
+    ensures { λ r. ⌜ r ≡ gotOf answer (length (now (free .entry))) ⌝ }
+{
+    if answer < 0 {
+        return Got::Failure;
+    }
+    let n = io::count(answer, free);
+    if n == 0 {
+        return Got::End;
+    }
+    Got::Bytes(n)
+}
+
+// Goes on from what was read behind the bytes that are held; tells where the next unfinished line stands.
+fn run_piece(
+    memory: &mut [u8],
+    flash: &mut [u8],
+    input: &[u8],
+    held: usize,
+    got: Got,
+    out: &mut [u8],
+) -> Next
+    requires { ⌜ room ≤ length (now out) ⌝ }
+    requires { ⌜ held ≤ length (now input) ⌝ }
+    requires { ⌜ Unended 0 (take held (now input)) ⌝ }
+    requires { ⌜ Within got (length (now input) - held) ⌝ }
+    ensures { λ r. ⌜ Answers got r held (now (input .entry)) (areas (now (memory .entry)) (now (flash .entry))) (areas (now (memory .exit)) (now (flash .exit))) ⌝ }
+{
+    match got {
+        Got::Failure => Next::Failed,
+        Got::End => {
+            run_last(memory, flash, &input[..held], out);
+            Next::Ended
+        }
+        Got::Bytes(count) => {
+            let end = held + count;
+            let Step::Until(at) = run_whole(memory, flash, &input[..end], out) else {
+                return Next::Failed;
+            };
+            Next::On(Rest { at, end })
+        }
+    }
+}
+
+// Reads a piece behind the unfinished line that is held, and goes on from there. There is free room, so an answer of 0 is the end of input.
 fn turn(memory: &mut [u8], flash: &mut [u8], input: &mut [u8], held: usize, out: &mut [u8]) -> Next
     requires { ⌜ room ≤ length (now out) ⌝ }
     requires { ⌜ held < length (now input) ⌝ }
     requires { ⌜ Unended 0 (take held (now input)) ⌝ }
-    ensures { λ r. ⌜ Turned r (take held (now (input .entry))) (areas (now (memory .entry)) (now (flash .entry))) (now (input .exit)) (areas (now (memory .exit)) (now (flash .exit))) ⌝ }
+    ensures { λ r. ⌜ Turned r held (now (input .entry)) (areas (now (memory .entry)) (now (flash .entry))) (now (input .exit)) (areas (now (memory .exit)) (now (flash .exit))) ⌝ }
 {
-    let Step::Until(end) = read_behind(input, held) else {
-        return Next::Failed;
-    };
-    if end == held {
-        run_last(memory, flash, &input[..held], out);
-        return Next::Ended;
-    }
-    let Step::Until(at) = run_whole(memory, flash, &input[..end], out) else {
-        return Next::Failed;
-    };
-    Next::On(Rest { at, end })
+    let answer = read_behind(input, held);
+    let got = got_of(answer, &input[held..]);
+    run_piece(memory, flash, input, held, got, out)
 }
 
 // Nothing says that input ends, so turns are counted down from a number that no run uses up.

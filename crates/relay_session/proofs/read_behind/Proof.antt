@@ -5,10 +5,7 @@ use Rattle.relay_session.proofs.read_behind.Statement.{statement}
 use Rattle.relay_session.proofs.read_behind.Tie as tie
 
 returns : tie.Need-returns
-returns c = front _ _ _ (c .before .before .before .before .before .before .pre)
-
-returns-2 : tie.Need-returns-2
-returns-2 c = record { begins = search needs; within = search needs; keeps = front _ _ _ (c .before .before .before .before .before .before .before .before .before .pre) }
+returns c = front _ _ _ (c .before .before .before .before .before .pre)
 
 pub read-behind-spec : {M : Type 1} → statement M
-read-behind-spec = tie.close (tie.spec (λ c. search needs) (λ c. search needs) (λ c. search needs) (λ c κs. search needs) (λ c. search needs) returns (λ c. search needs) (λ c. search needs) (λ c. search needs) (λ c κs. search needs) (λ c. search needs) (λ c. search needs) returns-2)
+read-behind-spec = tie.close (tie.spec (λ c. search needs) (λ c. search needs) (λ c. search needs) (λ c κs. search needs) (λ c. search needs) returns)

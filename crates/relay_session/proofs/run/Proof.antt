@@ -6,7 +6,7 @@ use borrow.Author.Needs.{needs}
 use Rattle.model.specs.Session.{programAreas}
 use Rattle.answers.specs.Performs.{areas}
 use Rattle.relay_session.specs.Steps.{Held}
-use Rattle.relay_session.proofs.Holding.{held-none, kept-short, kept-unended, kept-same}
+use Rattle.relay_session.proofs.Holding.{held-none, kept-short, kept-unended}
 use Rattle.relay_session.proofs.Reaching.{Reached, reached-none, stops, goes, ends, fails}
 use Rattle.relay_session.proofs.run.Statement.{statement}
 use Rattle.relay_session.proofs.run.Tie as tie
@@ -39,20 +39,23 @@ returns : tie.Need-returns Inv-loop μ-loop
 returns c =
     let s = c .before .before .before .before .before .before .before .before .before .before in
     let i = s .before .before .before .before .before .before .before .before .before .before .loop .inv in
-    ends (i .4) (kept-same (s .before .before .before .before .before .before .before .hold .ensures) (i .5)) (rw (c .enum-told .given .1) at (s .turn .ensures))
+    let t = rw (c .enum-told .given .1) at (s .turn .ensures) in
+    ends (i .4) (s .before .before .before .before .before .before .before .hold .ensures) (i .5) t
 
 returns-2 : tie.Need-returns-2 Inv-loop μ-loop
 returns-2 c =
     let s = c .before .before .before .before .before .before .before .before .before .before in
     let i = s .before .before .before .before .before .before .before .before .before .before .loop .inv in
-    fails (i .4) (kept-same (s .before .before .before .before .before .before .before .hold .ensures) (i .5)) (rw (c .enum-told2 .given .1) at (s .turn .ensures))
+    let t = rw (c .enum-told2 .given .1) at (s .turn .ensures) in
+    fails (i .4) (s .before .before .before .before .before .before .before .hold .ensures) (i .5) t
 
 loop-again : tie.Need-loop-again Inv-loop μ-loop
 loop-again c =
     let s = c .before .before .before .before .before .before .before .before .before .before .before in
     let i = s .before .before .before .before .before .before .before .before .before .before .loop .inv in
     let t = rw (c .before .next .given .1) at (s .turn .ensures) in
-    (omega arith, omega arith, omega arith, omega arith, goes (i .4) (kept-same (s .before .before .before .before .before .before .before .hold .ensures) (i .5)) t, t .holds)
+    let g = goes (i .4) (s .before .before .before .before .before .before .before .hold .ensures) (i .5) (omega (arith, s .before .before .before .before .before .before .before .before .before .before .before .before .before .before .before .pre .1 .1 .0)) t in
+    (omega arith, omega arith, omega arith, omega arith, g .0, g .1)
 
 returns-3 : tie.Need-returns-3 Inv-loop μ-loop
 returns-3 c = stops (c .before .loop .inv .4)
