@@ -13,7 +13,7 @@ use Rattle.session.proofs.Pieces.{left-pieces}
 use Rattle.relay_session.specs.declared.Rest.{Rest}
 use Rattle.relay_session.specs.declared.Got.{Got}
 use Rattle.relay_session.specs.declared.Next.{Next}
-use Rattle.relay_session.specs.Steps.{Went, Held, heldIn, Kept, gotOf, Answers, Within, Turned, IsSession}
+use Rattle.relay_session.specs.Steps.{Went, Held, heldIn, Kept, gotOf, MadeOf, Within, Turned, IsSession}
 use Rattle.relay_session.proofs.Getting.{got-within}
 use Rattle.relay_session.proofs.Holding.{kept-short, kept-same}
 
@@ -64,9 +64,9 @@ module _ {rest : Rest} {xs : List ℕ} {a a₁ : Areas} (r : Reached rest xs a a
         }
 
     pub goes : {rest′ : Rest} {later : List ℕ} {a₂ : Areas} → longest < length later → Turned (Next.On rest′) n ys a₁ later a₂ → Reached rest′ later a a₂ × Held rest′ later
-    goes {rest′} {later} {a₂} l t = go (gotOf (t .answer) (length later - n)) (got-within (t .answer) (length later - n)) (t .answers)
+    goes {rest′} {later} {a₂} l t = go (gotOf (t .answer) (length later - n)) (got-within (t .answer) (length later - n)) (t .made)
       where
-        go : (got : Got) → Within got (length later - n) → Answers got (Next.On rest′) n later a₁ a₂ → Reached rest′ later a a₂ × Held rest′ later
+        go : (got : Got) → Within got (length later - n) → MadeOf got (Next.On rest′) n later a₁ a₂ → Reached rest′ later a a₂ × Held rest′ later
         go Got.Failure m t = let z : _≡_ {A = ℕ} 0 1 = cc in absurd (omega arith)
         go Got.End m t = let z : _≡_ {A = ℕ} 0 1 = cc in absurd (omega arith)
         go (Got.Bytes b) m e =
@@ -77,17 +77,17 @@ module _ {rest : Rest} {xs : List ℕ} {a a₁ : Areas} (r : Reached rest xs a a
             )
 
     pub ends : {later : List ℕ} {a₂ : Areas} → Turned Next.Ended n ys a₁ later a₂ → IsSession a a₂
-    ends {later} {a₂} t = go (gotOf (t .answer) (length later - n)) (t .answers)
+    ends {later} {a₂} t = go (gotOf (t .answer) (length later - n)) (t .made)
       where
-        go : (got : Got) → Answers got Next.Ended n later a₁ a₂ → IsSession a a₂
+        go : (got : Got) → MadeOf got Next.Ended n later a₁ a₂ → IsSession a a₂
         go Got.Failure e = let z : _≡_ {A = ℕ} 0 1 = cc in absurd (omega arith)
         go Got.End e = record { text = r .text; leaves = e .1 ∙ rw (t .keeps) (rw (append-nil, append-nil) at (follows [])) }
         go (Got.Bytes b) e = absurd e
 
     pub fails : {later : List ℕ} {a₂ : Areas} → Turned Next.Failed n ys a₁ later a₂ → IsSession a a₂
-    fails {later} {a₂} t = go (gotOf (t .answer) (length later - n)) (t .answers)
+    fails {later} {a₂} t = go (gotOf (t .answer) (length later - n)) (t .made)
       where
-        go : (got : Got) → Answers got Next.Failed n later a₁ a₂ → IsSession a a₂
+        go : (got : Got) → MadeOf got Next.Failed n later a₁ a₂ → IsSession a a₂
         go Got.Failure e = record { text = r .lines; leaves = e .1 ∙ r .leaves }
         go Got.End e = let z : _≡_ {A = ℕ} 0 1 = cc in absurd (omega arith)
         go (Got.Bytes b) e = record { text = _; leaves = runs (e .went) }

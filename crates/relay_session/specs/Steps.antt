@@ -57,12 +57,13 @@ RunsTo end (Next.On rest) input a a′ = (rest .end ≡ end) × Went (rest .at) 
 RunsTo end Next.Ended input a a′ = ⊥
 RunsTo end Next.Failed input a a′ = WentPartly (take end input) a a′
 
--- What is made of it, behind the bytes held: nothing after a failure; at the end of input, what is held is the last line; bytes that came are run.
-abbrev pub Answers : Got → Next → ℕ → List ℕ → Areas → Areas → Type 0
-Answers Got.Failure r held input a a′ = (r ≡ Next.Failed) × (a′ ≡ a)
-Answers Got.End r held input a a′ = (r ≡ Next.Ended) × (a′ ≡ left (linesOf (take held input)) a)
-Answers (Got.Bytes n) r held input a a′ = RunsTo (held + n) r input a a′
+-- what is made of it, behind the bytes held: nothing after a failure; at the end of input, what is held is the last line; bytes that came are run
+abbrev pub MadeOf : Got → Next → ℕ → List ℕ → Areas → Areas → Type 0
+MadeOf Got.Failure r held input a a′ = (r ≡ Next.Failed) × (a′ ≡ a)
+MadeOf Got.End r held input a a′ = (r ≡ Next.Ended) × (a′ ≡ left (linesOf (take held input)) a)
+MadeOf (Got.Bytes n) r held input a a′ = RunsTo (held + n) r input a a′
 
+-- no more bytes came than there was room for
 abbrev pub Within : Got → ℕ → Type 0
 Within (Got.Bytes n) most = n ≤ most
 Within Got.End most = Unit {0}
@@ -72,7 +73,7 @@ Within Got.Failure most = Unit {0}
 pub record Turned (r : Next) (held : ℕ) (before : List ℕ) (a : Areas) (later : List ℕ) (a′ : Areas) : Type 0 where
   pub answer : ℤ
   pub keeps : take held later ≡ take held before
-  pub answers : Answers (gotOf answer (length later - held)) r held later a a′
+  pub made : MadeOf (gotOf answer (length later - held)) r held later a a′
 
 -- The areas are as the session of some text leaves them. It is what was read or, where a read or a write failed, the lines that were run until then; but no contract can tell it from another text.
 pub record IsSession (a a′ : Areas) : Type 0 where

@@ -6,7 +6,7 @@ ghost use Rattle.model.specs.Session.{linesOf, zeroArea, programAreas, left};
 ghost use Rattle.answers.specs.Performs.{areas};
 ghost use Rattle.session.specs.Lines.{Unended, longest};
 ghost use Rattle.session.specs.Promises.{room};
-ghost use Rattle.relay_session.specs.Steps.{WentOn, Held, Kept, gotOf, Answers, Within, Turned, IsSession};
+ghost use Rattle.relay_session.specs.Steps.{WentOn, Held, Kept, gotOf, MadeOf, Within, Turned, IsSession};
 use libc::STDIN_FILENO;
 use libc::STDOUT_FILENO;
 use session::Printed;
@@ -124,7 +124,7 @@ fn run_piece(
     requires { ⌜ held ≤ length (now input) ⌝ }
     requires { ⌜ Unended 0 (take held (now input)) ⌝ }
     requires { ⌜ Within got (length (now input) - held) ⌝ }
-    ensures { λ r. ⌜ Answers got r held (now (input .entry)) (areas (now (memory .entry)) (now (flash .entry))) (areas (now (memory .exit)) (now (flash .exit))) ⌝ }
+    ensures { λ r. ⌜ MadeOf got r held (now (input .entry)) (areas (now (memory .entry)) (now (flash .entry))) (areas (now (memory .exit)) (now (flash .exit))) ⌝ }
 {
     match got {
         Got::Failure => Next::Failed,

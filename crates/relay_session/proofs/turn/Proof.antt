@@ -27,7 +27,7 @@ run-piece-requires c κs =
 returns : tie.Need-returns
 returns c =
     let s = c .before .before .before .before .before .before .before .before .before .before .before in
-    record { answer = answer s; keeps = s .before .before .before .before .before .read-behind .ensures; answers = rw (← told s) (c .before .before .before .before .before .before .run-piece .ensures) }
+    record { answer = answer s; keeps = s .before .before .before .before .before .read-behind .ensures; made = rw (← told s) (c .before .before .before .before .before .before .run-piece .ensures) }
 
 pub turn-spec : {M : Type 1} → statement M
 turn-spec =
