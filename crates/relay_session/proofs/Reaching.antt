@@ -13,7 +13,7 @@ use Rattle.session.proofs.Pieces.{left-pieces}
 use Rattle.relay_session.specs.declared.Rest.{Rest}
 use Rattle.relay_session.specs.declared.Got.{Got}
 use Rattle.relay_session.specs.declared.Next.{Next}
-use Rattle.relay_session.specs.Steps.{Went, Held, heldIn, Kept, gotOf, MadeOf, Within, Turned, IsSession}
+use Rattle.relay_session.specs.Steps.{Went, Held, heldBytes, AtStart, gotOf, MadeOf, Within, Turned, IsSession}
 use Rattle.relay_session.proofs.Getting.{got-within}
 use Rattle.relay_session.proofs.Holding.{kept-short, kept-same}
 
@@ -23,7 +23,7 @@ pub record Reached (rest : Rest) (input : List ℕ) (a a′ : Areas) : Type 0 wh
   pub whole : Whole lines
   pub leaves : a′ ≡ left (linesOf lines) a
   pub text : List ℕ
-  pub carries : (more : List ℕ) → left (linesOf (heldIn rest input ++ more)) a′ ≡ left (linesOf (text ++ more)) a
+  pub carries : (more : List ℕ) → left (linesOf (heldBytes rest input ++ more)) a′ ≡ left (linesOf (text ++ more)) a
 
 pub reached-none : (xs : List ℕ) (a : Areas) → Reached (record { at = 0; end = 0 }) xs a a
 unfolding left linesOf
@@ -44,7 +44,7 @@ module _ {rest : Rest} {xs : List ℕ} {a a₁ : Areas} (r : Reached rest xs a a
   stops = record { text = r .lines; leaves = r .leaves }
 
   -- what is held stands at the start of the buffer, and a turn goes on from there
-  module _ {n : ℕ} {ys : List ℕ} (k : Kept n rest xs ys) (h : Held rest xs) where
+  module _ {n : ℕ} {ys : List ℕ} (k : AtStart n rest xs ys) (h : Held rest xs) where
     follows : (more : List ℕ) → left (linesOf (take n ys ++ more)) a₁ ≡ left (linesOf (r .text ++ more)) a
     follows more = kept-same k h .leaves more a₁ ∙ r .carries more
 

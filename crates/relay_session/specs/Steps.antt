@@ -34,13 +34,13 @@ pub record Held (rest : Rest) (input : List ℕ) : Type 0 where
   pub within : rest .end ≤ length input
   pub unended : Unended (rest .at) (take (rest .end) input)
 
-abbrev pub heldIn : Rest → List ℕ → List ℕ
-heldIn rest input = drop (rest .at) (take (rest .end) input)
+abbrev pub heldBytes : Rest → List ℕ → List ℕ
+heldBytes rest input = drop (rest .at) (take (rest .end) input)
 
 -- it stands at the start, in n bytes: of a line longer than any form, its beginning
-pub record Kept (n : ℕ) (rest : Rest) (before later : List ℕ) : Type 0 where
+pub record AtStart (n : ℕ) (rest : Rest) (before later : List ℕ) : Type 0 where
   pub within : n ≤ length later
-  pub stands : take n later ≡ take longest (heldIn rest before)
+  pub stands : take n later ≡ take longest (heldBytes rest before)
 
 -- what a read's answer means, where there was free room for n bytes: it failed, the input has ended, or so many bytes came
 abbrev pub cameOf : ℕ → Got

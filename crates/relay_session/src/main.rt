@@ -6,7 +6,7 @@ ghost use Rattle.model.specs.Session.{linesOf, zeroArea, programAreas, left};
 ghost use Rattle.answers.specs.Performs.{areas};
 ghost use Rattle.session.specs.Lines.{Unended, longest};
 ghost use Rattle.session.specs.Promises.{room};
-ghost use Rattle.relay_session.specs.Steps.{WentOn, Held, Kept, gotOf, MadeOf, Within, Turned, IsSession};
+ghost use Rattle.relay_session.specs.Steps.{WentOn, Held, AtStart, gotOf, MadeOf, Within, Turned, IsSession};
 use libc::STDIN_FILENO;
 use libc::STDOUT_FILENO;
 use session::Printed;
@@ -83,7 +83,7 @@ fn run_last(memory: &mut [u8], flash: &mut [u8], line: &[u8], out: &mut [u8])
 // Moves the unfinished line to the start of the buffer; tells how many bytes are held there.
 fn hold(input: &mut [u8], rest: Rest) -> usize
     requires { ⌜ Held rest (now input) ⌝ }
-    ensures { λ r. ⌜ Kept r rest (now (input .entry)) (now (input .exit)) ⌝ }
+    ensures { λ r. ⌜ AtStart r rest (now (input .entry)) (now (input .exit)) ⌝ }
 {
     let end = rest.end;
     session::keep_rest(&mut input[..end], rest.at)
