@@ -13,7 +13,8 @@ use Rattle.model.specs.declared.Geometry.{Geometry}
 use Rattle.model.specs.Search.{isSome}
 use Rattle.model.specs.Geometry.{capacity}
 use Rattle.model.specs.Keys.{pageOf}
-use Rattle.model.proofs.Tables.{either, Entry, find, store, erase, Distinct, find-store-same, find-store-other, find-erase-same, find-erase-other, store-new, distinct-store, distinct-erase, length-store, length-erase}
+use Rattle.model.proofs.Tests.{either}
+use Rattle.model.proofs.Tables.{Entry, find, store, erase, Distinct, find-store-same, find-store-other, find-erase-same, find-erase-other, store-new, distinct-store, distinct-erase, length-store, length-erase}
 use Rattle.model.proofs.Partitions.{modify, modify-at}
 use Rattle.history.specs.History.{Known}
 use Rattle.history.proofs.Table.{Part, live, Live, passing, isEmpty, mustList, stored, enlist, deleted}

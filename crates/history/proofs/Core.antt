@@ -11,10 +11,10 @@ use borrow.Author.Tests.{eqb-true, eqb-false, eq-eqb}
 use Rattle.model.specs.declared.Geometry.{Geometry}
 use Rattle.model.specs.Geometry.{capacity}
 use Rattle.model.specs.Keys.{partitionOf, pageOf}
-use Rattle.model.proofs.Tables.{either, Entry, find, strike, Distinct, unless, find-strike, distinct-strike, length-strike}
+use Rattle.model.proofs.Tests.{numbers, either}
+use Rattle.model.proofs.Tables.{Entry, find, strike, Distinct, unless, find-strike, distinct-strike, length-strike}
 use Rattle.model.proofs.Partitions.{modify, modify-at, modify-off}
 use Rattle.history.specs.History.{Known, History, older, aged, withKey}
-use Rattle.history.proofs.Basics.{numbers}
 use Rattle.history.proofs.Modify.{cond-both}
 use Rattle.history.proofs.Table.{Part, live, Live, flushed, expires}
 use Rattle.history.proofs.Told.{Told, told-same, told-flush}

@@ -10,7 +10,8 @@ use Rattle.model.specs.declared.Geometry.{Geometry}
 use Rattle.model.specs.Search.{isSome}
 use Rattle.model.specs.Geometry.{partitions, capacity}
 use Rattle.model.specs.Keys.{pageOf}
-use Rattle.model.proofs.Tables.{either, Entry, find, store, erase, length-store, length-erase}
+use Rattle.model.proofs.Tests.{either}
+use Rattle.model.proofs.Tables.{Entry, find, store, erase, length-store, length-erase}
 use Rattle.model.proofs.Partitions.{modify, modify-at, modify-off}
 use Rattle.history.proofs.Table.{Part, flushed, stored, deleted}
 

@@ -18,11 +18,11 @@ use Rattle.model.specs.Partition.{partition, flushesOf, listedOf, listOf, filte
 use Rattle.model.specs.Answers.{Areas}
 use Rattle.model.specs.Get.{batchPage}
 use Rattle.model.specs.Calls.{geometryIn, partitionIn}
-use Rattle.model.proofs.Tables.{either, find, Distinct}
+use Rattle.model.proofs.Tests.{numbers, either, both-true}
+use Rattle.model.proofs.Tables.{find, Distinct}
 use Rattle.model.proofs.Entries.{entriesFrom}
 use Rattle.model.proofs.ListEntries.{listEntries}
 use Rattle.history.specs.History.{History}
-use Rattle.history.proofs.Basics.{numbers, both-true}
 use Rattle.history.proofs.Table.{Live}
 use Rattle.history.proofs.Shows.{ShowsPart}
 use Rattle.history.proofs.InStep.{InStep}

@@ -13,7 +13,7 @@ use Rattle.model.specs.Partition.{flushesOf, listedOf, listOf, bufferOf, live, 
 use Rattle.model.specs.Answers.{Areas, Answer, refused, buffer, batch}
 use Rattle.model.specs.Get.{batchPage, hitIn, readThrough, soughtIn, sought}
 use Rattle.model.specs.Calls.{get, geometryIn, keyPartition, checks, result, replyIf, reply}
-use Rattle.model.proofs.Tables.{either}
+use Rattle.model.proofs.Tests.{either}
 use Rattle.history.specs.Reads.{readOf, batchesRead, readBy, isPassed, heldIn, AllLack, Follows}
 
 module _ (a : Areas) (k : ℕ) where

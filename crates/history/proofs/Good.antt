@@ -12,10 +12,10 @@ use Rattle.model.specs.declared.Geometry.{Geometry}
 use Rattle.model.specs.Search.{isSome}
 use Rattle.model.specs.Geometry.{partitions, capacity}
 use Rattle.model.specs.Keys.{partitionOf, pageOf}
-use Rattle.model.proofs.Tables.{either, find, store, length-store}
+use Rattle.model.proofs.Tests.{numbers, either, both-true}
+use Rattle.model.proofs.Tables.{find, store, length-store}
 use Rattle.model.proofs.Partitions.{modify, modify-at}
 use Rattle.history.specs.History.{History, blank, aged, withKey, counted}
-use Rattle.history.proofs.Basics.{numbers, both-true}
 use Rattle.history.proofs.Table.{Part, Live, empty, due, mustList, flushed, stored, deleted}
 use Rattle.history.proofs.Told.{absent}
 use Rattle.history.proofs.Core.{seen, KeyOk, PartOk, Core, core-flush, core-touch}

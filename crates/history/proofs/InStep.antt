@@ -18,11 +18,10 @@ use Rattle.model.specs.Flush.{flushed, written}
 use Rattle.model.specs.Calls.{format, flush, checks, effect, changed}
 use Rattle.model.proofs.Sizes.{sizes, page-of-lt}
 use Rattle.model.proofs.Lengths.{length-written}
-use Rattle.model.proofs.Tables.{either}
+use Rattle.model.proofs.Tests.{numbers, either}
 use Rattle.model.proofs.Partitions.{modify}
 use Rattle.model.proofs.PartitionsFlash.{written-out}
 use Rattle.history.specs.History.{History, blank, aged}
-use Rattle.history.proofs.Basics.{numbers}
 use Rattle.history.proofs.Table.{Part, empty, flushed as flushedPart}
 use Rattle.history.proofs.Good.{Fine, Good, good-blank, good-flush}
 use Rattle.history.proofs.Shows.{ShowsPart}

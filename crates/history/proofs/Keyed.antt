@@ -20,8 +20,8 @@ use Rattle.model.specs.Calls.{del, put, checks, result, effect, changed}
 use Rattle.model.proofs.Sizes.{partition-of-lt}
 use Rattle.model.proofs.Partitions.{modify}
 use Rattle.model.proofs.PartitionsCalls.{put-kept, put-flushed}
+use Rattle.model.proofs.Tests.{numbers}
 use Rattle.history.specs.History.{History, withKey, heard, note}
-use Rattle.history.proofs.Basics.{numbers}
 use Rattle.history.proofs.Modify.{modify-twice}
 use Rattle.history.proofs.Table.{Part, mustList, due as dueIn, flushed as flushedPart, stored as storedPart, deleted as deletedPart}
 use Rattle.history.proofs.Core.{flushed-ok}

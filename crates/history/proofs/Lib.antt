@@ -1,4 +1,3 @@
-pub mod Basics
 pub mod Modify
 pub mod Table
 pub mod Told

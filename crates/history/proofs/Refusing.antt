@@ -17,10 +17,10 @@ use Rattle.model.specs.Refusals.{refuseIf, lastFlush}
 use Rattle.model.specs.Format.{formatChecks}
 use Rattle.model.specs.View.{viewed}
 use Rattle.model.specs.Calls.{Call, format, put, get, del, flush, view, checks, result, replyIf, reply}
-use Rattle.model.proofs.Tables.{either, any}
+use Rattle.model.proofs.Tests.{either, both-true}
+use Rattle.model.proofs.Tables.{any}
 use Rattle.history.specs.History.{History}
 use Rattle.history.specs.Claim.{Fits, said}
-use Rattle.history.proofs.Basics.{both-true}
 use Rattle.history.proofs.Table.{Part, due, mustList}
 use Rattle.history.proofs.Pages.{page-expected}
 use Rattle.history.proofs.Checking.{bufferEmpty, put-checks, del-checks, flush-out, flush-checks, view-out, view-checks}

@@ -17,7 +17,8 @@ use Rattle.model.specs.Partition.{flushesOf, listedOf, listOf, filterOf, buffer
 use Rattle.model.specs.Put.{unlisted, buffered}
 use Rattle.model.specs.Del.{youngest, unbuffered, listedWith, deleted}
 use Rattle.model.proofs.Sizes.{page-of-lt, slot-lt}
-use Rattle.model.proofs.Tables.{either, Entry, find, store, erase, erase-none}
+use Rattle.model.proofs.Tests.{either}
+use Rattle.model.proofs.Tables.{Entry, find, store, erase, erase-none}
 use Rattle.model.proofs.Entries.{heldAt}
 use Rattle.model.proofs.ListEntries.{listEntries, entries-struck, entries-enlisted}
 use Rattle.model.proofs.Partitions.{modify, modify-at, modify-off, Laid}

@@ -10,9 +10,9 @@ use native.Mathlib.Decide.{decLe}
 use lib.Dec.{eqb}
 use borrow.Author.Tests.{lt-ltb, le-ltb}
 use Rattle.model.specs.Search.{isSome}
-use Rattle.model.proofs.Tables.{either, unless}
+use Rattle.model.proofs.Tests.{numbers, either}
+use Rattle.model.proofs.Tables.{unless}
 use Rattle.history.specs.History.{Known, older}
-use Rattle.history.proofs.Basics.{numbers}
 
 -- A listed key is in no place younger than the batch of its stamp. A key that the history knows is in the place of its age, and in no
 -- younger one. Any other key is in no live place.

@@ -11,7 +11,8 @@ use Rattle.model.specs.declared.Geometry.{Geometry}
 use Rattle.model.specs.Search.{isSome}
 use Rattle.model.specs.Keys.{pageOf}
 use Rattle.model.specs.Answers.{Answer, found, absent, batch}
-use Rattle.model.proofs.Tables.{either, find, passesAll, passesAll-found, not-passed}
+use Rattle.model.proofs.Tests.{either}
+use Rattle.model.proofs.Tables.{find, passesAll, passesAll-found, not-passed}
 use Rattle.history.specs.Claim.{said, readsOf}
 use Rattle.history.proofs.Table.{Part, live, passingFrom, passing}
 

@@ -100,26 +100,26 @@ bit-room g ok x i l h =
     let d = or-lt 32 (x / 2 ^ 32) 1 (shr-lt 32 32 l) (omega arith) in
     omega (arith, mul-le-mul {n₁ = i} {m₁ = bitStep x} {n₂ = 8} {m₂ = 4294967296} (omega arith) (omega arith))
 
--- ---- a search for a bit that a filter misses: the answer still to give at bit i
-module _ (g : Geometry) (x : ℕ) (f : List ℕ) where
+-- ---- a search for a bit of a key that is not set: the answer still to give at bit i
+module _ (g : Geometry) (x : ℕ) (bits : ℕ → Bool) where
   abbrev missing : ℕ → Bool
-  missing j = eqb (bitAt f (bitOf g x j)) 0
+  missing j = not (bits (bitOf g x j))
 
   pub passesFrom : ℕ → Bool
   passesFrom i = not (anyFrom (g .hashes - i) i missing)
 
-  pub pass-all : passes g x f ≡ passesFrom 0
+  pub pass-all : passes g x bits ≡ passesFrom 0
   unfolding passes passesFrom
   pass-all = rw sub-zero
 
   module _ (i : ℕ) where
-    pub pass-miss : i < g .hashes → bitAt f (bitOf g x i) ≡ 0 → passesFrom i ≡ false
+    pub pass-miss : i < g .hashes → bits (bitOf g x i) ≡ false → passesFrom i ≡ false
     unfolding passesFrom
-    pass-miss l e = rw (first-here missing (g .hashes) i l (eq-eqb (bitAt f (bitOf g x i)) 0 e))
+    pass-miss l e = rw (first-here missing (g .hashes) i l (rw e))
 
-    pub pass-next : i < g .hashes → (bitAt f (bitOf g x i) ≡ 0 → ⊥) → passesFrom i ≡ passesFrom (i + 1)
+    pub pass-next : i < g .hashes → bits (bitOf g x i) ≡ true → passesFrom i ≡ passesFrom (i + 1)
     unfolding passesFrom
-    pass-next l e = rw (first-next missing (g .hashes) i l (ne-eqb (bitAt f (bitOf g x i)) 0 e))
+    pass-next l e = rw (first-next missing (g .hashes) i l (rw e))
 
     pub pass-end : g .hashes ≤ i → passesFrom i ≡ true
     unfolding passesFrom

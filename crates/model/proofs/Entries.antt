@@ -19,7 +19,8 @@ use Rattle.model.proofs.Parts.{Apart, getD-sets-in, getD-mid}
 use Rattle.model.proofs.Words.{word-ext, length-write, getD-write-out, word-write, word-write-out, word-sets-out, word-zero}
 use Rattle.model.proofs.Searching.{first-at}
 use Rattle.model.proofs.Closing.{staying-le, length-stayingBytes, length-closedUp, staying-one}
-use Rattle.model.proofs.Tables.{either, Entry, find, store, erase, store-new, erase-none, length-store}
+use Rattle.model.proofs.Tests.{either}
+use Rattle.model.proofs.Tables.{Entry, find, store, erase, store-new, erase-none, length-store}
 
 -- record i: its key, and the number of w bytes behind the key
 abbrev pub entryAt : ℕ → List ℕ → ℕ → Entry

@@ -2,7 +2,6 @@
 use mathlib.Core.Path.{_≡_, refl, sym, _∙_, ap}
 use mathlib.Core.Bool.{Bool, true, false, not, _&&_, _||_, or-true, or-false, or-assoc}
 use mathlib.Core.List.{List, [], _∷_, _++_}
-use mathlib.Core.Option.{some}
 use Prim.Native.Nat.{ℕ, zero, suc, _+_, _*_, _/_, _≤_, _<_}
 use native.Mathlib.Nat.{add-zero, zero-add, mod-lt, zero-div}
 use native.Mathlib.Numerals.{add-one}
@@ -16,20 +15,15 @@ use Rattle.model.specs.Search.{firstFrom, anyFrom}
 use Rattle.model.specs.Keys.{mixed, bitOf}
 use Rattle.model.specs.Records.{keyAt}
 use Rattle.model.specs.Page.{countOf}
-use Rattle.model.specs.Geometry.{filterSize, filterAt}
-use Rattle.model.specs.Filter.{bitAt, withBit, passes, withBits, withEntries, withPages, filterFor}
-use Rattle.model.specs.Partition.{flushesOf, filterOf, bufferOf, slot}
-use Rattle.model.specs.Flush.{filtered}
+use Rattle.model.specs.Geometry.{filterSize}
+use Rattle.model.specs.Filter.{isSet, withBit, passes, withBits, withEntries, withPages, filterFor}
 use Rattle.model.specs.declared.Geometry.{Geometry}
-use Rattle.model.proofs.Parts.{mid-within}
 use Rattle.model.proofs.Words.{word-zero}
-use Rattle.model.proofs.Lengths.{length-withBits, length-withEntries, length-withPages, length-filterFor}
+use Rattle.model.proofs.Lengths.{length-withBits, length-withEntries, length-withPages}
 use Rattle.model.proofs.Bits.{bit-set, bit-other}
-use Rattle.model.proofs.Tables.{either, Entry, find, any, all, anyBelow, bitsBelow, bitsOf, hasBit, passesAll, passesAll-found}
+use Rattle.model.proofs.Tests.{either}
+use Rattle.model.proofs.Tables.{Entry, any, all, anyBelow, bitsBelow, bitsOf, hasBit}
 use Rattle.model.proofs.Entries.{entriesFrom, pageEntries, entries-last}
-
-abbrev pub isSet : List ℕ → ℕ → Bool
-isSet f b = eqb (bitAt f b) 1
 
 -- the bits of a filter after one was set
 pub set-withBit : (c b : ℕ) (f : List ℕ) → c / 8 < length f → isSet (withBit c f) b ≡ eqb b c || isSet f b
@@ -103,45 +97,32 @@ any-last test (suc n) i =
     let e : i + 1 + n ≡ i + suc n = omega arith in
     either (test i) (λ t. simp (t, or-true)) (λ t. simp t (rw e at (any-last test n (i + 1))))
 
-not-zero : (x : ℕ) → x < 2 → not (eqb x 0) ≡ eqb x 1
-not-zero zero l = refl
-not-zero (suc zero) l = refl
-not-zero (suc (suc x)) l = absurd (omega arith)
-
 not-or : (x y : Bool) → not (x || y) ≡ not x && not y
 not-or true y = refl
 not-or false y = refl
 
+not-not : (x : Bool) → not (not x) ≡ x
+not-not true = refl
+not-not false = refl
+
 -- a filter passes a key each of whose bits is set
-module _ (g : Geometry) (x : ℕ) (f : List ℕ) where
-  none-missing : (n : ℕ) → not (anyFrom n 0 (λ i. eqb (bitAt f (bitOf g x i)) 0)) ≡ all (isSet f) (bitsBelow g x n)
+module _ (g : Geometry) (x : ℕ) (bits : ℕ → Bool) where
+  none-missing : (n : ℕ) → not (anyFrom n 0 (λ i. not (bits (bitOf g x i)))) ≡ all bits (bitsBelow g x n)
   unfolding firstFrom all bitsBelow
   none-missing zero = refl
   none-missing (suc n) =
-      let missing : ℕ → Bool = λ i. eqb (bitAt f (bitOf g x i)) 0 in
-      ap not (any-last missing n 0) ∙ rw (zero-add, not-or, not-zero (bitAt f (bitOf g x n)) (omega arith), none-missing n)
+      ap not (any-last (λ i. not (bits (bitOf g x i))) n 0) ∙ rw (zero-add, not-or, not-not (bits (bitOf g x n)), none-missing n)
 
-  pub passes-all : passes g x f ≡ all (isSet f) (bitsBelow g x (g .hashes))
+  pub passes-all : passes g x bits ≡ all bits (bitsBelow g x (g .hashes))
   unfolding passes
   passes-all = none-missing (g .hashes)
 
-pub all-ext : (s t : ℕ → Bool) (l : List ℕ) → ((b : ℕ) → s b ≡ t b) → all s l ≡ all t l
-unfolding all
-all-ext s t [] h = refl
-all-ext s t (x ∷ l) h = rw (h x, all-ext s t l h)
+-- so it is had from the bits below M alone
+module _ (g : Geometry) (any-bit : 0 < g .bits) (x : ℕ) (bits bits′ : ℕ → Bool) (same : (b : ℕ) → b < g .bits → bits b ≡ bits′ b) where
+  all-same : (n : ℕ) → all bits (bitsBelow g x n) ≡ all bits′ (bitsBelow g x n)
+  unfolding all bitsBelow bitOf
+  all-same zero = refl
+  all-same (suc n) = rw (same (bitOf g x n) (mod-lt _ any-bit), all-same n)
 
-module _ (g : Geometry) (size : g .bits ≡ 8 * filterSize g) (any-bit : 0 < g .bits) (page : ℕ → List ℕ) (k : ℕ) where
-  pub passes-filterFor : passes g (mixed k) (filterFor g page) ≡ passesAll g (λ q. pageEntries (page q)) k
-  unfolding passesAll
-  passes-filterFor =
-      passes-all g (mixed k) (filterFor g page)
-      ∙ all-ext (isSet (filterFor g page)) (hasBit g (λ q. pageEntries (page q))) (bitsOf g k) (λ b. set-filterFor g size any-bit b page)
-
-  -- a batch that holds the key passes
-  pub passes-held : (q v : ℕ) → q < g .pages → find k (pageEntries (page q)) ≡ some v → passes g (mixed k) (filterFor g page) ≡ true
-  passes-held q v l h = passes-filterFor ∙ passesAll-found g k (λ r. pageEntries (page r)) q l v h
-
--- a flush makes its slot's filter so
-pub filtered-slot : (g : Geometry) (p : List ℕ) → filterAt g (slot g (flushesOf p + 1)) + filterSize g ≤ length p → filterOf g (slot g (flushesOf p + 1)) (filtered g p) ≡ filterFor g (bufferOf g p)
-unfolding filtered
-filtered-slot g p h = mid-within (filterAt g (slot g (flushesOf p + 1))) (filterSize g) (λ _. filterFor g (bufferOf g p)) p h (length-filterFor g (bufferOf g p))
+  pub passes-same : passes g x bits ≡ passes g x bits′
+  passes-same = passes-all g x bits ∙ all-same (g .hashes) ∙ sym (passes-all g x bits′)

@@ -1,6 +1,5 @@
 -- Each change keeps the length of what it changes. (Of `closedUp`, Closing says it.)
-use mathlib.Core.Path.{_≡_, refl, _∙_}
-use mathlib.Core.Bool.{Bool, true, false, cond}
+use mathlib.Core.Path.{_≡_, refl}
 use mathlib.Core.List.{List}
 use mathlib.Core.Option.{Option, none, some}
 use Prim.Native.Nat.{ℕ, zero, suc}
@@ -8,24 +7,18 @@ use lib.ListN.{length, length-set, length-replicate}
 use lib.Seq.{length-sets}
 use Rattle.model.specs.Geometry.{filterSize}
 use Rattle.model.specs.Opening.{withOpening}
-use Rattle.model.specs.Keys.{partitionOf}
 use Rattle.model.specs.Page.{searched, appended, replaced, removed, storedAt, stored, removedAt, without, emptied, numbered}
 use Rattle.model.specs.DeleteList.{listedAt, enlisted, struck, expired}
 use Rattle.model.specs.Filter.{withBit, withBits, withEntries, withPages, filterFor}
 use Rattle.model.specs.Partition.{Head, withHead, listedOf, listOf}
 use Rattle.model.specs.Format.{emptiedPages, emptiedPartitions, formatted}
-use Rattle.model.specs.Flush.{filtered, delisted, flushedHead, flushed, written}
-use Rattle.model.specs.Put.{due, unlistedAt, unlisted, buffered, putIn}
-use Rattle.model.specs.Del.{isListed, stampFor, unbuffered, listedWith, deleted}
+use Rattle.model.specs.Flush.{filtered, delisted, flushed, withBatch}
+use Rattle.model.specs.Put.{unlistedAt, unlisted, buffered}
+use Rattle.model.specs.Del.{unbuffered, listedWith}
 use Rattle.model.specs.declared.Geometry.{Geometry}
 use Rattle.model.proofs.Parts.{length-within}
 use Rattle.model.proofs.Words.{length-write}
 use Rattle.model.proofs.Closing.{length-closedUp}
-
--- one of two changes
-length-cond : (b : Bool) (xs ys zs : List ℕ) → length xs ≡ length zs → length ys ≡ length zs → length (cond b xs ys) ≡ length zs
-length-cond true xs ys zs e f = e
-length-cond false xs ys zs e f = f
 
 -- ---- a page
 pub length-appended : (k v : ℕ) (p : List ℕ) → length (appended k v p) ≡ length p
@@ -133,18 +126,14 @@ pub length-delisted : (g : Geometry) (flushes listed : ℕ) (p : List ℕ) → l
 unfolding delisted
 length-delisted g flushes listed p = simp length-within
 
-pub length-flushedHead : (g : Geometry) (p after : List ℕ) → length (flushedHead g p after) ≡ length after
-unfolding flushedHead
-length-flushedHead g p after = simp length-withHead
-
 pub length-flushed : (g : Geometry) (t : ℕ) (p : List ℕ) → length (flushed g t p) ≡ length p
 unfolding flushed
-length-flushed g t p = simp (length-flushedHead, length-emptiedPages, length-delisted, length-filtered)
+length-flushed g t p = simp (length-withHead, length-emptiedPages, length-delisted, length-filtered)
 
-pub length-written : (g : Geometry) (t : ℕ) (p : List ℕ) (q : ℕ) (f : List ℕ) → length (written g t p q f) ≡ length f
-unfolding written
-length-written g t p zero f = refl
-length-written g t p (suc q) f = simp (length-within, length-written g t p q f)
+pub length-withBatch : (g : Geometry) (t : ℕ) (p : List ℕ) (q : ℕ) (f : List ℕ) → length (withBatch g t p q f) ≡ length f
+unfolding withBatch
+length-withBatch g t p zero f = refl
+length-withBatch g t p (suc q) f = simp (length-within, length-withBatch g t p q f)
 
 -- ---- put
 length-unlistedAt : (o : Option ℕ) (g : Geometry) (p : List ℕ) → length (unlistedAt o g p) ≡ length p
@@ -159,10 +148,6 @@ pub length-buffered : (g : Geometry) (k v : ℕ) (p : List ℕ) → length (buff
 unfolding buffered
 length-buffered g k v p = simp length-within
 
-pub length-putIn : (g : Geometry) (k v : ℕ) (p : List ℕ) → length (putIn g k v p) ≡ length p
-unfolding putIn
-length-putIn g k v p = simp (length-unlisted, length-buffered) (length-cond (due g k p) (flushed g (partitionOf g k) p) p p (length-flushed g (partitionOf g k) p) refl)
-
 -- ---- del
 pub length-unbuffered : (g : Geometry) (k : ℕ) (p : List ℕ) → length (unbuffered g k p) ≡ length p
 unfolding unbuffered
@@ -171,7 +156,3 @@ length-unbuffered g k p = simp length-within
 pub length-listedWith : (o : Option ℕ) (g : Geometry) (k : ℕ) (p : List ℕ) → length (listedWith o g k p) ≡ length p
 length-listedWith (some stamp) g k p = simp (length-withHead, length-within)
 length-listedWith none g k p = refl
-
-pub length-deleted : (g : Geometry) (k : ℕ) (p : List ℕ) → length (deleted g k p) ≡ length p
-unfolding deleted
-length-deleted g k p = length-cond (isListed g k p) p (listedWith (stampFor g k p) g k (unbuffered g k p)) p refl (length-listedWith (stampFor g k p) g k (unbuffered g k p) ∙ length-unbuffered g k p)

@@ -1,3 +1,4 @@
+pub mod Tests
 pub mod Parts
 pub mod Words
 pub mod Blocks
@@ -12,10 +13,13 @@ pub mod Entries
 pub mod ListEntries
 pub mod FilterBits
 pub mod Samples
+pub mod Heads
 pub mod Partitions
 pub mod PartitionsFlash
 pub mod PartitionsFilters
 pub mod PartitionsFormat
 pub mod PartitionsCalls
+pub mod Checks
+pub mod Calls
 pub mod Computing
 pub mod Faults

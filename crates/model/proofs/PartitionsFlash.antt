@@ -12,10 +12,10 @@ use Rattle.model.specs.Bytes.{mid}
 use Rattle.model.specs.Geometry.{allowed, partitions, flashNeed, slotPageAt, stride, bufferAt}
 use Rattle.model.specs.Page.{numbered}
 use Rattle.model.specs.Partition.{flushesOf, bufferOf, slot}
-use Rattle.model.specs.Flush.{written}
+use Rattle.model.specs.Flush.{withBatch}
 use Rattle.model.proofs.Parts.{length-mid, mid-within, mid-within-out}
 use Rattle.model.proofs.Sizes.{slot-page-fits, slot-pages-apart, slot-lt, buffer-fits}
-use Rattle.model.proofs.Lengths.{length-numbered, length-written}
+use Rattle.model.proofs.Lengths.{length-numbered, length-withBatch}
 
 -- two numbers less than K apart differ mod K
 mod-apart : (K a b : ℕ) → a < b → b < a + K → a % K ≡ b % K → ⊥
@@ -32,28 +32,28 @@ slot-apart g F n first old stays e = mod-apart (g .kept) (n - 1) (F + 1 - 1) (om
 
 module _ (g : Geometry) (ok : allowed g ≡ true) (t : ℕ) (below : t < partitions g) (p f : List ℕ) (fits : flashNeed g ≤ length f) where
   -- every page of another partition or slot
-  pub written-out : (n u j q : ℕ) → n ≤ g .pages → u < partitions g → j < g .kept → q < g .pages
-      → (u ≡ t → j ≡ slot g (flushesOf p + 1) → ⊥) → mid (slotPageAt g u j q) (g .page) (written g t p n f) ≡ mid (slotPageAt g u j q) (g .page) f
-  unfolding written
-  written-out zero u j q m lu lj lq other = refl
-  written-out (suc n) u j q m lu lj lq other =
-      mid-within-out _ _ _ (written g t p n f) _ _ (omega (arith, length-written g t p n f, slot-page-fits g u j q lu lj lq))
+  pub batch-out : (n u j q : ℕ) → n ≤ g .pages → u < partitions g → j < g .kept → q < g .pages
+      → (u ≡ t → j ≡ slot g (flushesOf p + 1) → ⊥) → mid (slotPageAt g u j q) (g .page) (withBatch g t p n f) ≡ mid (slotPageAt g u j q) (g .page) f
+  unfolding withBatch
+  batch-out zero u j q m lu lj lq other = refl
+  batch-out (suc n) u j q m lu lj lq other =
+      mid-within-out _ _ _ (withBatch g t p n f) _ _ (omega (arith, length-withBatch g t p n f, slot-page-fits g u j q lu lj lq))
       (slot-pages-apart g t (slot g (flushesOf p + 1)) n u j q (slot-lt g ok _) lj m lq (λ a b c. other (sym a) (sym b)))
-      ∙ written-out n u j q (omega arith) lu lj lq other
+      ∙ batch-out n u j q (omega arith) lu lj lq other
 
   -- a page of the batch
-  pub written-page : length p ≡ stride g → (n q : ℕ) → n ≤ g .pages → q < n
-      → mid (slotPageAt g t (slot g (flushesOf p + 1)) q) (g .page) (written g t p n f) ≡ numbered (flushesOf p + 1) (bufferOf g p q)
-  unfolding written
-  written-page long zero q m lq = absurd (omega arith)
-  written-page long (suc n) q m lq =
+  pub batch-page : length p ≡ stride g → (n q : ℕ) → n ≤ g .pages → q < n
+      → mid (slotPageAt g t (slot g (flushesOf p + 1)) q) (g .page) (withBatch g t p n f) ≡ numbered (flushesOf p + 1) (bufferOf g p q)
+  unfolding withBatch
+  batch-page long zero q m lq = absurd (omega arith)
+  batch-page long (suc n) q m lq =
       let j = slot g (flushesOf p + 1) in
       let lj = slot-lt g ok (flushesOf p + 1) in
       let batch : ℕ → List ℕ → List ℕ = λ r _. numbered (flushesOf p + 1) (bufferOf g p r) in
       elim (ℕ-discrete q n) [
-        | yes e ↦ rw e (mid-within (slotPageAt g t j n) (g .page) (batch n) (written g t p n f) (omega (arith, length-written g t p n f, slot-page-fits g t j n below lj m))
+        | yes e ↦ rw e (mid-within (slotPageAt g t j n) (g .page) (batch n) (withBatch g t p n f) (omega (arith, length-withBatch g t p n f, slot-page-fits g t j n below lj m))
             (length-numbered (flushesOf p + 1) (bufferOf g p n) ∙ length-mid (bufferAt g n) (g .page) p (omega (arith, buffer-fits g n m))))
-        | no e ↦ mid-within-out (slotPageAt g t j n) (g .page) (batch n) (written g t p n f) _ _ (omega (arith, length-written g t p n f, slot-page-fits g t j q below lj (omega arith)))
+        | no e ↦ mid-within-out (slotPageAt g t j n) (g .page) (batch n) (withBatch g t p n f) _ _ (omega (arith, length-withBatch g t p n f, slot-page-fits g t j q below lj (omega arith)))
             (slot-pages-apart g t j n t j q lj lj m (omega arith) (λ a b c. e (sym c)))
-            ∙ written-page long n q (omega arith) (omega arith)
+            ∙ batch-page long n q (omega arith) (omega arith)
       ]

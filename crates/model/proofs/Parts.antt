@@ -112,10 +112,6 @@ pub getD-within-out : (a n : ℕ) (f : List ℕ → List ℕ) (xs : List ℕ) (i
 unfolding within
 getD-within-out a n f xs i h = getD-sets-out (take n (f (mid a n xs))) xs a i (λ p q. h p (omega (arith, short n (f (mid a n xs)))))
 
--- what f gives is as long as what it is given
-abbrev pub Keeps : ℕ → (List ℕ → List ℕ) → Type 0
-Keeps n f = (ys : List ℕ) → length ys ≡ n → length (f ys) ≡ n
-
 module _ (a n : ℕ) (f : List ℕ → List ℕ) (xs : List ℕ) (h : a + n ≤ length xs) (k : length (f (mid a n xs)) ≡ n) where
   all : take n (f (mid a n xs)) ≡ f (mid a n xs)
   all = take-all n (f (mid a n xs)) (omega arith)
@@ -176,12 +172,6 @@ sets-mid a n j xs vs q k =
         (λ o. getD-sets-out vs (mid a n xs) j x o ∙ getD-mid a n xs x l ∙ sym (getD-sets-out vs xs (a + j) (a + x) (λ p r. o (omega arith) (omega arith))))
         (at-or-out j (length vs) x)
 
--- a change within a part of a part
-pub within-within : (a n j m : ℕ) (f : List ℕ → List ℕ) (xs : List ℕ) → j + m ≤ n → a + n ≤ length xs → within a n (within j m f) xs ≡ within (a + j) m f xs
-within-within a n j m f xs h k =
-    rw (within-sets a n (within j m f) xs, take-all n (within j m f (mid a n xs)) (omega (arith, length-within j m f (mid a n xs), length-mid a n xs k)), within-sets j m f (mid a n xs), mid-mid a n j m xs h k, within-sets (a + j) m f xs)
-    (sets-mid a n j xs (take m (f (mid (a + j) m xs))) (omega (arith, short m (f (mid (a + j) m xs)))) k)
-
 -- a part that is set whole
 pub within-set : (a n : ℕ) (ys xs : List ℕ) → length ys ≡ n → within a n (λ _. ys) xs ≡ sets xs a ys
 within-set a n ys xs e = rw (within-sets a n (λ _. ys) xs, take-all n ys (omega arith))
@@ -189,12 +179,6 @@ within-set a n ys xs e = rw (within-sets a n (λ _. ys) xs, take-all n ys (omega
 -- a part that stays as it is
 pub within-id : (a n : ℕ) (f : List ℕ → List ℕ) (xs : List ℕ) → a + n ≤ length xs → f (mid a n xs) ≡ mid a n xs → within a n f xs ≡ xs
 within-id a n f xs h e = rw (within-sets a n f xs, e, take-all n (mid a n xs) (omega (arith, length-mid a n xs h))) (sets-mid a n 0 xs [] (omega arith) h)
-
--- two changes that lie apart, in either order
-pub within-comm : (a m b n : ℕ) (f g : List ℕ → List ℕ) (xs : List ℕ) → a + m ≤ length xs → b + n ≤ length xs → Apart a m b n → within a m f (within b n g xs) ≡ within b n g (within a m f xs)
-within-comm a m b n f g xs h k p =
-    rw (within-sets a m f (within b n g xs), within-sets b n g (within a m f xs), mid-within-out b n g xs a m h (λ i q r s t. p i s t q r), mid-within-out a m f xs b n k p, within-sets a m f xs, within-sets b n g xs)
-    (sets-comm (take m (f (mid a m xs))) (take n (g (mid b n xs))) xs a b (λ i q r s t. p i q (omega (arith, short m (f (mid a m xs)))) s (omega (arith, short n (g (mid b n xs))))))
 
 -- two changes of one part are one
 pub within-twice : (a n : ℕ) (f g : List ℕ → List ℕ) (xs : List ℕ) → a + n ≤ length xs → length (f (mid a n xs)) ≡ n → length (g (f (mid a n xs))) ≡ n → within a n g (within a n f xs) ≡ within a n (λ ys. g (f ys)) xs

@@ -3,7 +3,7 @@ use mathlib.Core.Path.{_≡_, refl}
 use Prim.Native.Nat.{_^_}
 use Rattle.model.specs.Bytes.{word, bytesOf, write, zeros}
 use Rattle.model.specs.Search.{firstFrom}
-use Rattle.model.specs.Geometry.{filterAt, bufferAt, stride, partitionAt, memoryNeed, slotPageAt, flashNeed}
+use Rattle.model.specs.Geometry.{geometry, G, filterAt, bufferAt, stride, partitionAt, memoryNeed, slotPageAt, flashNeed}
 use Rattle.model.specs.Opening.{geometryOf, withOpening}
 use Rattle.model.specs.Keys.{partitionOf, pageOf, mixed, bitOf}
 use Rattle.model.specs.Records.{staying, stayingBytes, closedUp}
@@ -11,12 +11,9 @@ use Rattle.model.specs.Page.{appended, replaced, removed, stored, withou
 use Rattle.model.specs.Partition.{Head, headOf, withHead}
 use Rattle.model.specs.declared.Geometry.{Geometry}
 
--- the session's geometry, and one with no two numbers alike
-abbrev G : Geometry
-G = record { parts = 0; page = 64; pages = 1; kept = 2; bits = 64; hashes = 3; list = 1 }
-
+-- a geometry with no two numbers alike
 abbrev H : Geometry
-H = record { parts = 1; page = 128; pages = 4; kept = 3; bits = 256; hashes = 2; list = 5 }
+H = geometry 1 128 4 3 256 2 5
 
 needs : (memoryNeed G ≡ 144) × (flashNeed G ≡ 128) × (memoryNeed H ≡ 1440) × (flashNeed H ≡ 3072)
 unfolding memoryNeed flashNeed partitionAt stride bufferAt filterAt

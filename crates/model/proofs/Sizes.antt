@@ -1,6 +1,6 @@
 -- What the allowed numbers bound, and where things lie with them. No other file opens the definitions of the offsets.
-use mathlib.Core.Bool.{Bool, true, false, false≢true, _&&_, and-true}
-use mathlib.Core.Path.{_≡_, refl, sym}
+use mathlib.Core.Bool.{true, false, _&&_, and-true}
+use mathlib.Core.Path.{_≡_, sym}
 use Prim.Native.Nat.{ℕ, _+_, _-_, _*_, _%_, _^_, _≤_, _<_}
 use native.Mathlib.Nat.{zero-add, zero-mul, mul-le-mul, mul-le-mul-right, pow-le-pow-right, mod-lt}
 use native.Mathlib.Omega.{arith}
@@ -12,6 +12,7 @@ use Rattle.model.specs.Geometry.{between, isPower, allowed, partitions, 
 use Rattle.model.specs.Keys.{partitionOf, pageOf}
 use Rattle.model.specs.Partition.{slot}
 use Rattle.model.specs.declared.Geometry.{Geometry}
+use Rattle.model.proofs.Tests.{both-true}
 use Rattle.model.proofs.Parts.{Apart}
 use Rattle.model.proofs.Blocks.{block-le, blocks-apart, digits-one}
 use Rattle.model.proofs.Powers.{power, power-multiple, false-if}
@@ -21,37 +22,25 @@ pub record Sizes (g : Geometry) : Type 0 where
   pub partitions-min : 1 ≤ partitions g
   pub partitions-max : partitions g ≤ 256
   pub page-test : isPower 6 12 (g .page) ≡ true
-  pub page-power : (k : ℕ) × (6 ≤ k) × (k ≤ 12) × (g .page ≡ 2 ^ k)
   pub page-min : 64 ≤ g .page
   pub page-max : g .page ≤ 4096
   pub page-is : g .page ≡ 16 * (capacity g + 1)
   pub capacity-min : 3 ≤ capacity g
-  pub capacity-max : capacity g ≤ 255
   pub pages-test : isPower 0 6 (g .pages) ≡ true
-  pub pages-power : (k : ℕ) × (0 ≤ k) × (k ≤ 6) × (g .pages ≡ 2 ^ k)
   pub pages-min : 1 ≤ g .pages
   pub pages-max : g .pages ≤ 64
   pub kept-min : 1 ≤ g .kept
   pub kept-max : g .kept ≤ 32
   pub bits-test : isPower 6 16 (g .bits) ≡ true
-  pub bits-power : (k : ℕ) × (6 ≤ k) × (k ≤ 16) × (g .bits ≡ 2 ^ k)
   pub bits-min : 64 ≤ g .bits
   pub bits-max : g .bits ≤ 65536
   pub bits-is : g .bits ≡ 8 * filterSize g
-  pub filter-min : 8 ≤ filterSize g
   pub filter-max : filterSize g ≤ 8192
-  pub hashes-min : 1 ≤ g .hashes
   pub hashes-max : g .hashes ≤ 8
-  pub list-min : 1 ≤ g .list
   pub list-max : g .list ≤ 1024
 
--- both of two tests
-both : (a b : Bool) → (a && b) ≡ true → (a ≡ true) × (b ≡ true)
-both true b h = (refl, h)
-both false b h = absurd (false≢true h)
-
 range : (low high n : ℕ) → between low high n ≡ true → (low ≤ n) × (n ≤ high)
-range low high n h = let w = both (leb low n) (leb n high) h in (leb-true low n (w .0), leb-true n high (w .1))
+range low high n h = let w = both-true (leb low n) (leb n high) h in (leb-true low n (w .0), leb-true n high (w .1))
 
 -- 2 ^ k between two powers of two
 power-range : (low high k : ℕ) → low ≤ k → k ≤ high → (2 ^ low ≤ 2 ^ k) × (2 ^ k ≤ 2 ^ high)
@@ -66,12 +55,12 @@ sizes g ok =
     let t4 = t3 && between 1 32 (g .kept) in
     let t5 = t4 && isPower 6 16 (g .bits) in
     let t6 = t5 && between 1 8 (g .hashes) in
-    let w7 = both t6 (between 1 1024 (g .list)) ok in
-    let w6 = both t5 (between 1 8 (g .hashes)) (w7 .0) in
-    let w5 = both t4 (isPower 6 16 (g .bits)) (w6 .0) in
-    let w4 = both t3 (between 1 32 (g .kept)) (w5 .0) in
-    let w3 = both t2 (isPower 0 6 (g .pages)) (w4 .0) in
-    let w2 = both t1 (isPower 6 12 (g .page)) (w3 .0) in
+    let w7 = both-true t6 (between 1 1024 (g .list)) ok in
+    let w6 = both-true t5 (between 1 8 (g .hashes)) (w7 .0) in
+    let w5 = both-true t4 (isPower 6 16 (g .bits)) (w6 .0) in
+    let w4 = both-true t3 (between 1 32 (g .kept)) (w5 .0) in
+    let w3 = both-true t2 (isPower 0 6 (g .pages)) (w4 .0) in
+    let w2 = both-true t1 (isPower 6 12 (g .page)) (w3 .0) in
     let parts = leb-true (g .parts) 8 (w2 .0) in
     let page = power 6 12 (g .page) (w2 .1) in
     let pages = power 0 6 (g .pages) (w3 .1) in
@@ -90,28 +79,21 @@ sizes g ok =
       partitions-min = parts-range .0;
       partitions-max = parts-range .1;
       page-test = w2 .1;
-      page-power = page;
       page-min = omega arith;
       page-max = omega arith;
       page-is = omega arith;
       capacity-min = omega arith;
-      capacity-max = omega arith;
       pages-test = w3 .1;
-      pages-power = pages;
       pages-min = omega arith;
       pages-max = omega arith;
       kept-min = kept .0;
       kept-max = kept .1;
       bits-test = w5 .1;
-      bits-power = bits;
       bits-min = omega arith;
       bits-max = omega arith;
       bits-is = omega arith;
-      filter-min = omega arith;
       filter-max = omega arith;
-      hashes-min = hashes .0;
       hashes-max = hashes .1;
-      list-min = list .0;
       list-max = list .1;
     }
 
@@ -203,10 +185,6 @@ module _ (g : Geometry) (ok : allowed g ≡ true) where
   pub partition-at-max : (t : ℕ) → t ≤ partitions g → partitionAt g t ≤ 138416160
   unfolding partitionAt
   partition-at-max t l = let z = sizes g ok in omega (arith, mul-le-mul l stride-max, mul-le-mul-right 540688 (z .partitions-max))
-
-  pub memory-max : memoryNeed g ≤ 138416160
-  unfolding memoryNeed
-  memory-max = partition-at-max (partitions g) (omega arith)
 
   pub flash-max : flashNeed g ≤ 2147483648
   unfolding flashNeed

@@ -12,11 +12,7 @@ use borrow.Author.Tests.{eqb-true, eqb-false, eq-eqb, ne-eqb}
 use Rattle.model.specs.Search.{isSome}
 use Rattle.model.specs.Keys.{mixed, bitOf}
 use Rattle.model.specs.declared.Geometry.{Geometry}
-
--- a proof by a test's two cases
-pub either : {A : Type 0} (b : Bool) → (b ≡ true → A) → (b ≡ false → A) → A
-either true f g = f refl
-either false f g = g refl
+use Rattle.model.proofs.Tests.{either}
 
 -- a page's entry (key, value), or a list's (key, stamp)
 pub record Entry : Type 0 where

@@ -84,9 +84,6 @@ word-write-out m n v at xs b p = word-ext m (write n v at xs) xs b b (λ i l. ge
 pub word-mid : (n : ℕ) (xs : List ℕ) (a m j : ℕ) → j + n ≤ m → word n (mid a m xs) j ≡ word n xs (a + j)
 word-mid n xs a m j h = word-ext n (mid a m xs) xs j (a + j) (λ i l. rw add-assoc (getD-mid a m xs (j + i) (omega arith)))
 
-pub word-within-in : (n a m : ℕ) (f : List ℕ → List ℕ) (xs : List ℕ) → a + m ≤ length xs → length (f (mid a m xs)) ≡ m → (j : ℕ) → j + n ≤ m → word n (within a m f xs) (a + j) ≡ word n (f (mid a m xs)) j
-word-within-in n a m f xs h k j l = word-ext n (within a m f xs) (f (mid a m xs)) (a + j) j (λ i q. rw add-assoc (getD-within-in a m f xs h k (j + i) (omega arith)))
-
 pub word-within-out : (n a m : ℕ) (f : List ℕ → List ℕ) (xs : List ℕ) (b : ℕ) → Apart a m b n → word n (within a m f xs) b ≡ word n xs b
 word-within-out n a m f xs b p = word-ext n (within a m f xs) xs b b (λ i l. getD-within-out a m f xs (b + i) (λ q r. p (b + i) q r (omega arith) (omega arith)))
 
@@ -96,9 +93,6 @@ unfolding write
 write-set n v a j m ys xs e h = sets-in (bytesOf n v) ys xs a j (rw length-bytesOf (omega arith)) ∙ sym (within-set a m (sets ys j (bytesOf n v)) xs (length-sets ys j (bytesOf n v) ∙ e))
 
 -- ---- of what was set
-pub word-sets-in : (n : ℕ) (vs xs : List ℕ) (a j : ℕ) → j + n ≤ length vs → a + length vs ≤ length xs → word n (sets xs a vs) (a + j) ≡ word n vs j
-word-sets-in n vs xs a j h k = word-ext n (sets xs a vs) vs (a + j) j (λ i l. rw add-assoc (getD-sets-in vs xs a (j + i) (omega arith) k))
-
 pub word-sets-out : (n : ℕ) (vs xs : List ℕ) (a b : ℕ) → Apart a (length vs) b n → word n (sets xs a vs) b ≡ word n xs b
 word-sets-out n vs xs a b p = word-ext n (sets xs a vs) xs b b (λ i l. getD-sets-out vs xs a (b + i) (λ q r. p (b + i) q r (omega arith) (omega arith)))
 
@@ -111,11 +105,3 @@ word-zero (suc n) m at = omega (arith, word-zero n m (at + 1), zeros m at)
     zeros zero i = refl
     zeros (suc m) zero = refl
     zeros (suc m) (suc i) = zeros m i
-
--- a number write into a part is a number write into the whole
-pub within-write : (a n m v j : ℕ) (xs : List ℕ) → j + m ≤ n → a + n ≤ length xs → within a n (write m v j) xs ≡ write m v (a + j) xs
-unfolding write
-within-write a n m v j xs h k =
-    within-sets a n (write m v j) xs
-    ∙ rw (take-all n (sets (mid a n xs) j (bytesOf m v)) (omega (arith, length-sets (mid a n xs) j (bytesOf m v), length-mid a n xs k)))
-    (sets-mid a n j xs (bytesOf m v) (rw length-bytesOf h) k)

@@ -22,13 +22,29 @@ abbrev pub bytesIn : Areas → Stretch → List ℕ
 bytesIn a (inMemory at n) = mid at n (a .memory)
 bytesIn a (inFlash at n) = mid at n (a .flash)
 
+-- what a get has cost: the pages read
+pub record Tally : Type 0 where
+  pub reads : ℕ
+
+abbrev pub tally : ℕ → Tally
+tally reads = record { reads = reads }
+
+-- a refusal's number, and the pages read before it
+pub record Refusal : Type 0 where
+  pub number : ℕ
+  pub reads : ℕ
+
+-- one that comes before any page is read
+abbrev pub unread : ℕ → Refusal
+unread n = record { number = n; reads = 0 }
+
 --     done pages             format, put, del, flush: the pages written
---     found value reads place,  absent reads      get
+--     found value tally place,  absent tally      get
 --     shown stretch          view
 --     refused number reads
 pub data Answer : Type 0 where
   done : ℕ → Answer
-  found : ℕ → ℕ → Place → Answer
-  absent : ℕ → Answer
+  found : ℕ → Tally → Place → Answer
+  absent : Tally → Answer
   shown : Stretch → Answer
   refused : ℕ → ℕ → Answer

@@ -8,12 +8,12 @@ use Rattle.model.specs.Geometry.{stride, partitionAt}
 use Rattle.model.specs.Opening.{geometryOf}
 use Rattle.model.specs.Keys.{partitionOf}
 use Rattle.model.specs.Partition.{partition}
-use Rattle.model.specs.Answers.{Areas, Stretch, inMemory, bytesIn, Answer, done, found, absent, shown, refused}
+use Rattle.model.specs.Answers.{Areas, Refusal, Stretch, inMemory, bytesIn, Answer, done, found, absent, shown, refused}
 use Rattle.model.specs.Refusals.{unopened}
 use Rattle.model.specs.Format.{formatChecks, formatted}
-use Rattle.model.specs.Flush.{flushChecks, flushed, written}
+use Rattle.model.specs.Flush.{flushChecks, flushed, withBatch}
 use Rattle.model.specs.Put.{due, putChecks, putIn}
-use Rattle.model.specs.Get.{keyChecks, sought}
+use Rattle.model.specs.Get.{getChecks, sought}
 use Rattle.model.specs.Del.{delChecks, deleted}
 use Rattle.model.specs.View.{viewChecks, viewed}
 use Rattle.model.specs.declared.Geometry.{Geometry}
@@ -38,10 +38,10 @@ abbrev pub keyPartition : Areas → ℕ → List ℕ
 keyPartition a k = partitionIn a (partitionOf (geometryIn a) k)
 
 -- the refusals that are decided before any page of flash is read, in their order
-unfoldable pub checks : Areas → Call → Option ℕ
+unfoldable pub checks : Areas → Call → Option Refusal
 checks a (format g) = formatChecks g a
 checks a (put k v) = unopened a (putChecks (geometryIn a) k (keyPartition a k))
-checks a (get k) = unopened a (keyChecks (geometryIn a) k (keyPartition a k) none)
+checks a (get k) = unopened a (getChecks (geometryIn a) k (keyPartition a k))
 checks a (del k) = unopened a (delChecks (geometryIn a) k (keyPartition a k))
 checks a (flush t) = unopened a (flushChecks (geometryIn a) t (partitionIn a t))
 checks a (view t q n) = unopened a (viewChecks (geometryIn a) t q n (partitionIn a t))
@@ -55,9 +55,9 @@ result a (del k) = done 0
 result a (flush t) = done (geometryIn a .pages)
 result a (view t q n) = viewed (geometryIn a) t q n (a .flash)
 
-abbrev pub replyIf : Option ℕ → Answer → Answer
-replyIf (some n) r = refused n 0
-replyIf none r = r
+abbrev pub replyIf : Option Refusal → Answer → Answer
+replyIf (some r) x = refused (r .number) (r .reads)
+replyIf none x = x
 
 -- what a call answers
 unfoldable pub reply : Areas → Call → Answer
@@ -67,18 +67,18 @@ reply a c = replyIf (checks a c) (result a c)
 abbrev pub changed : Areas → ℕ → (List ℕ → List ℕ) → List ℕ → Areas
 changed a t f flash = record { memory = within (partitionAt (geometryIn a) t) (stride (geometryIn a)) f (a .memory); flash = flash }
 
-abbrev pub writtenTo : Areas → ℕ → List ℕ
-writtenTo a t = written (geometryIn a) t (partitionIn a t) (geometryIn a .pages) (a .flash)
+abbrev pub flashAfter : Areas → ℕ → List ℕ
+flashAfter a t = withBatch (geometryIn a) t (partitionIn a t) (geometryIn a .pages) (a .flash)
 
 -- what an accepted call leaves
 unfoldable pub effect : Areas → Call → Areas
 effect a (format g) = record { memory = formatted g (a .memory); flash = a .flash }
 effect a (put k v) =
     changed a (partitionOf (geometryIn a) k) (putIn (geometryIn a) k v)
-    (cond (due (geometryIn a) k (keyPartition a k)) (writtenTo a (partitionOf (geometryIn a) k)) (a .flash))
+    (cond (due (geometryIn a) k (keyPartition a k)) (flashAfter a (partitionOf (geometryIn a) k)) (a .flash))
 effect a (get k) = a
 effect a (del k) = changed a (partitionOf (geometryIn a) k) (deleted (geometryIn a) k) (a .flash)
-effect a (flush t) = changed a t (flushed (geometryIn a) t) (writtenTo a t)
+effect a (flush t) = changed a t (flushed (geometryIn a) t) (flashAfter a t)
 effect a (view t q n) = a
 
 -- a refused call changes no byte

@@ -1,5 +1,5 @@
 -- "del: a key already listed changes nothing. Otherwise its first entry leaves its buffer page, later used ones moving down. If some live filter passes, it is listed last, stamped with the youngest such batch. No flash is read."
-use Prim.Native.Nat.{ℕ, _+_}
+use Prim.Native.Nat.{ℕ}
 use mathlib.Core.Bool.{Bool, cond, not, _&&_}
 use mathlib.Core.List.{List, [], _∷_}
 use mathlib.Core.Option.{Option, none, some}
@@ -10,9 +10,9 @@ use Rattle.model.specs.Geometry.{listAt, listSize, bufferAt}
 use Rattle.model.specs.Keys.{pageOf}
 use Rattle.model.specs.Page.{without}
 use Rattle.model.specs.DeleteList.{listedAt, enlisted}
-use Rattle.model.specs.Partition.{headOf, withHead, flushesOf, listedOf, listOf, passing}
-use Rattle.model.specs.Refusals.{refuseIf}
-use Rattle.model.specs.Get.{keyChecks}
+use Rattle.model.specs.Partition.{headOf, listedHead, withHead, listedOf, listOf, passing}
+use Rattle.model.specs.Answers.{Refusal}
+use Rattle.model.specs.Refusals.{refuseIf, keyOverfull}
 use Rattle.model.specs.declared.Geometry.{Geometry}
 
 abbrev pub isListed : Geometry → ℕ → List ℕ → Bool
@@ -27,19 +27,17 @@ abbrev pub stampFor : Geometry → ℕ → List ℕ → Option ℕ
 stampFor g k p = youngest (passing g k p)
 
 -- 12, 14
-unfoldable pub delChecks : Geometry → ℕ → List ℕ → Option ℕ
-delChecks g k p = keyChecks g k p (refuseIf (not (isListed g k p) && isSome (stampFor g k p) && eqb (listedOf p) (g .list)) 14 none)
+unfoldable pub delChecks : Geometry → ℕ → List ℕ → Option Refusal
+delChecks g k p =
+    refuseIf (keyOverfull g k p) 12
+    (refuseIf (not (isListed g k p) && isSome (stampFor g k p) && eqb (listedOf p) (g .list)) 14 none)
 
 unfoldable pub unbuffered : Geometry → ℕ → List ℕ → List ℕ
 unbuffered g k p = within (bufferAt g (pageOf g k)) (g .page) (without k) p
 
 -- listed with the stamp, or not
 abbrev pub listedWith : Option ℕ → Geometry → ℕ → List ℕ → List ℕ
-listedWith (some stamp) g k p = withHead (record {
-  flushes = flushesOf p;
-  listed = listedOf p + 1;
-  rest = headOf p .rest;
-}) (within listAt (listSize g) (enlisted (listedOf p) k stamp) p)
+listedWith (some stamp) g k p = withHead (listedHead (headOf p)) (within listAt (listSize g) (enlisted (listedOf p) k stamp) p)
 listedWith none g k p = p
 
 -- the partition after the del

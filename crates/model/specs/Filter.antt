@@ -16,12 +16,16 @@ use Rattle.model.specs.declared.Geometry.{Geometry}
 abbrev pub bitAt : List ℕ → ℕ → ℕ
 bitAt f b = getD f (b / 8) 0 / 2 ^ (b % 8) % 2
 
+-- which bits of a filter are set
+abbrev pub isSet : List ℕ → ℕ → Bool
+isSet f b = eqb (bitAt f b) 1
+
 unfoldable pub withBit : ℕ → List ℕ → List ℕ
 withBit b f = set f (b / 8) (bitOr (getD f (b / 8) 0) (2 ^ (b % 8)))
 
--- a filter passes a key, x when mixed, that misses none of its h bits
-unfoldable pub passes : Geometry → ℕ → List ℕ → Bool
-passes g x f = not (anyFrom (g .hashes) 0 (λ i. eqb (bitAt f (bitOf g x i)) 0))
+-- a filter with these bits passes a key, x when mixed, that misses none of its h bits
+unfoldable pub passes : Geometry → ℕ → (ℕ → Bool) → Bool
+passes g x bits = not (anyFrom (g .hashes) 0 (λ i. not (bits (bitOf g x i))))
 
 -- the bits 0 to i − 1 of a mixed key set
 unfoldable pub withBits : Geometry → ℕ → ℕ → List ℕ → List ℕ

@@ -1,5 +1,5 @@
 -- "flush of partition t: batch F + 1 is written whole, its pages being the buffer pages with that flush number; no other flash byte changes. The slot's filter is made new. List entries stamped F + 1 − K are removed. The buffer is emptied as by format and F rises by 1."
-use Prim.Native.Nat.{ℕ, zero, suc, _+_}
+use Prim.Native.Nat.{ℕ, zero, suc, _+_, _-_}
 use mathlib.Core.Bool.{Bool, not}
 use mathlib.Core.List.{List}
 use mathlib.Core.Option.{Option, none}
@@ -10,8 +10,9 @@ use Rattle.model.specs.Geometry.{partitions, listAt, listSize, filterAt,
 use Rattle.model.specs.Page.{countOf, numbered}
 use Rattle.model.specs.DeleteList.{expired, unexpired}
 use Rattle.model.specs.Filter.{filterFor}
-use Rattle.model.specs.Partition.{headOf, withHead, flushesOf, listedOf, listOf, bufferOf, slot}
-use Rattle.model.specs.Refusals.{refuseIf, listOverfull, somePageOverfull, lastFlush}
+use Rattle.model.specs.Partition.{Head, headOf, flushedHead, unlistedHead, withHead, flushesOf, listedOf, listOf, bufferOf, slot}
+use Rattle.model.specs.Answers.{Refusal}
+use Rattle.model.specs.Refusals.{refuseIf, headOverfull, somePageOverfull, lastFlush}
 use Rattle.model.specs.Format.{emptiedPages}
 use Rattle.model.specs.declared.Geometry.{Geometry}
 
@@ -20,10 +21,10 @@ abbrev pub inUse : Geometry → List ℕ → Bool
 inUse g p = anyFrom (g .pages) 0 (λ q. not (eqb (countOf (bufferOf g p q)) 0))
 
 -- 4, 12, 15, 16, for partition t with the bytes p
-unfoldable pub flushChecks : Geometry → ℕ → List ℕ → Option ℕ
+unfoldable pub flushChecks : Geometry → ℕ → List ℕ → Option Refusal
 flushChecks g t p =
     refuseIf (not (ltb t (partitions g))) 4
-    (refuseIf (listOverfull g p) 12
+    (refuseIf (headOverfull g (headOf p)) 12
     (refuseIf (somePageOverfull g p) 12
     (refuseIf (not (inUse g p)) 15
     (refuseIf (eqb (flushesOf p) lastFlush) 16 none))))
@@ -36,18 +37,15 @@ filtered g p = within (filterAt g (slot g (flushesOf p + 1))) (filterSize g) (λ
 unfoldable pub delisted : Geometry → ℕ → ℕ → List ℕ → List ℕ
 delisted g flushes listed p = within listAt (listSize g) (expired (g .kept) flushes listed) p
 
-unfoldable pub flushedHead : Geometry → List ℕ → List ℕ → List ℕ
-flushedHead g p after = withHead (record {
-  flushes = flushesOf p + 1;
-  listed = unexpired (g .kept) (flushesOf p) (listedOf p) (listOf g p);
-  rest = headOf p .rest;
-}) after
+-- the head after the flush: the entries that expire are listed no more
+unfoldable pub headAfter : Geometry → List ℕ → Head
+headAfter g p = unlistedHead (listedOf p - unexpired (g .kept) (flushesOf p) (listedOf p) (listOf g p)) (flushedHead (headOf p))
 
 -- the partition after the flush
 unfoldable pub flushed : Geometry → ℕ → List ℕ → List ℕ
-flushed g t p = flushedHead g p (emptiedPages g t (g .pages) (delisted g (flushesOf p) (listedOf p) (filtered g p)))
+flushed g t p = withHead (headAfter g p) (emptiedPages g t (g .pages) (delisted g (flushesOf p) (listedOf p) (filtered g p)))
 
 -- flash with the first q pages of the batch written
-unfoldable pub written : Geometry → ℕ → List ℕ → ℕ → List ℕ → List ℕ
-written g t p zero f = f
-written g t p (suc q) f = within (slotPageAt g t (slot g (flushesOf p + 1)) q) (g .page) (λ _. numbered (flushesOf p + 1) (bufferOf g p q)) (written g t p q f)
+unfoldable pub withBatch : Geometry → ℕ → List ℕ → ℕ → List ℕ → List ℕ
+withBatch g t p zero f = f
+withBatch g t p (suc q) f = within (slotPageAt g t (slot g (flushesOf p + 1)) q) (g .page) (λ _. numbered (flushesOf p + 1) (bufferOf g p q)) (withBatch g t p q f)

@@ -10,12 +10,12 @@ use Rattle.model.specs.Bytes.{zeros, within}
 use Rattle.model.specs.Geometry.{allowed, partitions, stride, partitionAt, bufferAt, memoryNeed, flashNeed}
 use Rattle.model.specs.Opening.{withOpening}
 use Rattle.model.specs.Page.{emptied}
-use Rattle.model.specs.Answers.{Areas}
+use Rattle.model.specs.Answers.{Areas, Refusal}
 use Rattle.model.specs.Refusals.{refuseIf}
 use Rattle.model.specs.declared.Geometry.{Geometry}
 
 -- 1, 2, 3
-unfoldable pub formatChecks : Geometry → Areas → Option ℕ
+unfoldable pub formatChecks : Geometry → Areas → Option Refusal
 formatChecks g a =
     refuseIf (not (allowed g)) 1
     (refuseIf (ltb (length (a .memory)) (memoryNeed g)) 2

@@ -6,6 +6,14 @@ use lib.Dec.{eqb, leb}
 use Rattle.model.specs.Search.{anyFrom}
 use Rattle.model.specs.declared.Geometry.{Geometry}
 
+-- the numbers of a table, in the paper's order
+abbrev pub geometry : ℕ → ℕ → ℕ → ℕ → ℕ → ℕ → ℕ → Geometry
+geometry s P Q K M h D = record { parts = s; page = P; pages = Q; kept = K; bits = M; hashes = h; list = D }
+
+-- "the session's geometry, call it G"
+abbrev pub G : Geometry
+G = geometry 0 64 1 2 64 3 1
+
 abbrev pub between : ℕ → ℕ → ℕ → Bool
 between low high n = leb low n && leb n high
 

@@ -9,13 +9,13 @@ use Rattle.model.specs.Keys.{partitionOf, pageOf}
 use Rattle.model.specs.Page.{valueAt, searched, expected}
 use Rattle.model.specs.DeleteList.{listedAt}
 use Rattle.model.specs.Partition.{listedOf, listOf, bufferOf, slot, passing}
-use Rattle.model.specs.Answers.{Answer, found, absent, refused, Place, buffer, batch}
-use Rattle.model.specs.Refusals.{refuseIf, listOverfull, pageOverfull}
+use Rattle.model.specs.Answers.{Refusal, Answer, found, absent, refused, tally, Place, buffer, batch}
+use Rattle.model.specs.Refusals.{refuseIf, keyOverfull}
 use Rattle.model.specs.declared.Geometry.{Geometry}
 
--- 12, for the key's partition with the bytes p: get and del
-unfoldable pub keyChecks : Geometry → ℕ → List ℕ → Option ℕ → Option ℕ
-keyChecks g k p later = refuseIf (listOverfull g p) 12 (refuseIf (pageOverfull g p (pageOf g k)) 12 later)
+-- 12, for the key's partition with the bytes p
+unfoldable pub getChecks : Geometry → ℕ → List ℕ → Option Refusal
+getChecks g k p = refuseIf (keyOverfull g k p) 12 none
 
 -- page q of batch n of partition t
 abbrev pub batchPage : Geometry → ℕ → List ℕ → ℕ → ℕ → List ℕ
@@ -23,12 +23,12 @@ batchPage g t f n q = mid (slotPageAt g t (slot g n) q) (g .page) f
 
 -- what a search of a page answers, and otherwise
 abbrev pub hitIn : List ℕ → ℕ → Place → Option ℕ → Answer → Answer
-hitIn page reads place (some i) later = found (valueAt page i) reads place
+hitIn page reads place (some i) later = found (valueAt page i) (tally reads) place
 hitIn page reads place none later = later
 
 -- through these batches, after so many reads; 13 counts the failed page too
 unfoldable pub readThrough : Geometry → ℕ → List ℕ → List ℕ → ℕ → Answer
-readThrough g k f [] reads = absent reads
+readThrough g k f [] reads = absent (tally reads)
 readThrough g k f (n ∷ ns) reads =
     let page : List ℕ = batchPage g (partitionOf g k) f n (pageOf g k) in
     cond (expected g (partitionOf g k) n (pageOf g k) page)
@@ -36,7 +36,7 @@ readThrough g k f (n ∷ ns) reads =
     (refused 13 (reads + 1))
 
 abbrev pub soughtIn : Option ℕ → Geometry → ℕ → List ℕ → List ℕ → Answer
-soughtIn (some i) g k p f = absent 0
+soughtIn (some i) g k p f = absent (tally 0)
 soughtIn none g k p f =
     let page : List ℕ = bufferOf g p (pageOf g k) in
     hitIn page 0 buffer (searched k page) (readThrough g k f (passing g k p) 0)

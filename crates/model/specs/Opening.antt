@@ -2,21 +2,14 @@
 use Prim.Native.Nat.{ℕ}
 use mathlib.Core.List.{List}
 use Rattle.model.specs.Bytes.{word, write}
+use Rattle.model.specs.Geometry.{geometry}
 use Rattle.model.specs.declared.Geometry.{Geometry}
 
 abbrev pub openingSize : ℕ
 openingSize = 32
 
 unfoldable pub geometryOf : List ℕ → Geometry
-geometryOf m = record {
-  parts = word 4 m 0;
-  page = word 4 m 4;
-  pages = word 4 m 8;
-  kept = word 4 m 12;
-  bits = word 4 m 16;
-  hashes = word 4 m 20;
-  list = word 4 m 24;
-}
+geometryOf m = geometry (word 4 m 0) (word 4 m 4) (word 4 m 8) (word 4 m 12) (word 4 m 16) (word 4 m 20) (word 4 m 24)
 
 abbrev pub eighth : List ℕ → ℕ
 eighth m = word 4 m 28

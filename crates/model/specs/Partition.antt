@@ -1,12 +1,12 @@
 -- A partition of memory: its head, its list, its filters, its buffer; and which batches are live.
-use Prim.Native.Nat.{ℕ, zero, suc, _-_, _%_, min}
+use Prim.Native.Nat.{ℕ, zero, suc, _+_, _-_, _%_, min}
 use mathlib.Core.Bool.{Bool, cond, _&&_}
 use mathlib.Core.List.{List, [], _∷_}
 use lib.Dec.{leb, ltb}
 use Rattle.model.specs.Bytes.{word, write, mid}
 use Rattle.model.specs.Geometry.{partitionAt, stride, listAt, listSize, filterAt, filterSize, bufferAt}
 use Rattle.model.specs.Keys.{mixed}
-use Rattle.model.specs.Filter.{passes}
+use Rattle.model.specs.Filter.{isSet, passes}
 use Rattle.model.specs.declared.Geometry.{Geometry}
 
 -- F, L and 8 bytes that the base carries along
@@ -14,6 +14,18 @@ pub record Head : Type 0 where
   pub flushes : ℕ
   pub listed : ℕ
   pub rest : ℕ
+
+-- one flush more
+abbrev pub flushedHead : Head → Head
+flushedHead h = record { flushes = h .flushes + 1; listed = h .listed; rest = h .rest }
+
+-- one listed key more
+abbrev pub listedHead : Head → Head
+listedHead h = record { flushes = h .flushes; listed = h .listed + 1; rest = h .rest }
+
+-- n listed keys less
+abbrev pub unlistedHead : ℕ → Head → Head
+unlistedHead n h = record { flushes = h .flushes; listed = h .listed - n; rest = h .rest }
 
 abbrev pub headOf : List ℕ → Head
 headOf p = record { flushes = word 4 p 0; listed = word 4 p 4; rest = word 8 p 8 }
@@ -44,17 +56,25 @@ abbrev pub slot : Geometry → ℕ → ℕ
 slot g n = (n - 1) % g .kept
 
 -- Live are the latest min(K, F) batches.
-abbrev pub live : Geometry → List ℕ → ℕ
-live g p = min (g .kept) (flushesOf p)
+unfoldable pub live : Geometry → Head → ℕ
+live g h = min (g .kept) (h .flushes)
 
-abbrev pub isLive : Geometry → List ℕ → ℕ → Bool
-isLive g p n = ltb (flushesOf p - live g p) n && leb n (flushesOf p)
+unfoldable pub isLive : Geometry → Head → ℕ → Bool
+isLive g h n = ltb (h .flushes - live g h) n && leb n (h .flushes)
 
--- of `left` batches, from batch n down, those whose filter passes the key
+-- the bits of slot j's filter
+unfoldable pub slotBits : Geometry → List ℕ → ℕ → ℕ → Bool
+slotBits g p j b = isSet (filterOf g j p) b
+
+-- the filter of batch n passes the key
+unfoldable pub batchPasses : Geometry → ℕ → List ℕ → ℕ → Bool
+batchPasses g k p n = passes g (mixed k) (slotBits g p (slot g n))
+
+-- of so many batches, from batch n down, those whose filter passes the key
 unfoldable pub passingFrom : Geometry → ℕ → List ℕ → ℕ → ℕ → List ℕ
 passingFrom g k p zero n = []
-passingFrom g k p (suc left) n = cond (passes g (mixed k) (filterOf g (slot g n) p)) (n ∷ passingFrom g k p left (n - 1)) (passingFrom g k p left (n - 1))
+passingFrom g k p (suc count) n = cond (batchPasses g k p n) (n ∷ passingFrom g k p count (n - 1)) (passingFrom g k p count (n - 1))
 
 -- the live batches whose filter passes the key, youngest first
 unfoldable pub passing : Geometry → ℕ → List ℕ → List ℕ
-passing g k p = passingFrom g k p (live g p) (flushesOf p)
+passing g k p = passingFrom g k p (live g (headOf p)) (flushesOf p)

@@ -6,6 +6,7 @@ use mathlib.Core.List.{List, [], _∷_, _++_}
 use mathlib.Core.Option.{Option, none, some}
 use lib.Dec.{eqb}
 use Rattle.model.specs.Bytes.{zeros}
+use Rattle.model.specs.Geometry.{geometry}
 use Rattle.model.specs.Text.{text, decimal, past, Figure, figure}
 use Rattle.model.specs.Answers.{Areas, Answer, done, found, absent, shown, refused}
 use Rattle.model.specs.Calls.{Call, format, put, get, del, flush, reply, after}
@@ -68,15 +69,7 @@ formatLine xs =
     then (numberPast ") (hashes " narrow (m .rest)) (λ h.
     then (numberPast ") (list " narrow (h .rest)) (λ d.
     ending "))" (d .rest)
-    (format (record {
-      parts = s .value;
-      page = p .value;
-      pages = q .value;
-      kept = k .value;
-      bits = m .value;
-      hashes = h .value;
-      list = d .value;
-    })))))))))
+    (format (geometry (s .value) (p .value) (q .value) (k .value) (m .value) (h .value) (d .value))))))))))
 
 -- the call that a line says
 unfoldable pub callOf : List ℕ → Option Call
@@ -85,8 +78,8 @@ callOf xs = orElse (putLine xs) (orElse (getLine xs) (orElse (delLine xs) (orEls
 -- After ok: pages written. After found: value, reads. After none: reads. After refused: number, reads. A view has no form.
 unfoldable pub answerText : Answer → List ℕ
 answerText (done n) = text "(ok " ++ decimal n ++ text ")\n"
-answerText (found v r p) = text "(found " ++ decimal v ++ text " " ++ decimal r ++ text ")\n"
-answerText (absent r) = text "(none " ++ decimal r ++ text ")\n"
+answerText (found v c p) = text "(found " ++ decimal v ++ text " " ++ decimal (c .reads) ++ text ")\n"
+answerText (absent c) = text "(none " ++ decimal (c .reads) ++ text ")\n"
 answerText (refused n r) = text "(refused " ++ decimal n ++ text " " ++ decimal r ++ text ")\n"
 answerText (shown s) = []
 

@@ -6,19 +6,19 @@ use mathlib.Core.Option.{Option, none}
 use lib.Dec.{eqb, ltb}
 use Rattle.model.specs.Geometry.{partitions, partitionAt, bufferAt, slotPageAt}
 use Rattle.model.specs.Page.{expected}
-use Rattle.model.specs.Partition.{slot, isLive}
-use Rattle.model.specs.Answers.{Answer, shown, refused, inMemory, inFlash}
-use Rattle.model.specs.Refusals.{refuseIf, listOverfull, pageOverfull}
+use Rattle.model.specs.Partition.{headOf, slot, isLive}
+use Rattle.model.specs.Answers.{Refusal, Answer, shown, refused, inMemory, inFlash}
+use Rattle.model.specs.Refusals.{refuseIf, headOverfull, pageOverfull}
 use Rattle.model.specs.Get.{batchPage}
 use Rattle.model.specs.declared.Geometry.{Geometry}
 
 -- 4, 12, 17, for partition t with the bytes p
-unfoldable pub viewChecks : Geometry → ℕ → ℕ → ℕ → List ℕ → Option ℕ
+unfoldable pub viewChecks : Geometry → ℕ → ℕ → ℕ → List ℕ → Option Refusal
 viewChecks g t q n p =
     refuseIf (not (ltb t (partitions g)) || not (ltb q (g .pages))) 4
-    (refuseIf (listOverfull g p) 12
+    (refuseIf (headOverfull g (headOf p)) 12
     (refuseIf (eqb n 0 && pageOverfull g p q) 12
-    (refuseIf (not (eqb n 0) && not (isLive g p n)) 17 none)))
+    (refuseIf (not (eqb n 0) && not (isLive g (headOf p) n)) 17 none)))
 
 -- the part that is shown
 abbrev pub pageShown : Bool → Geometry → ℕ → ℕ → ℕ → List ℕ → Answer

@@ -1,0 +1,204 @@
+-- Laws of the chains of checks: which refusal each condition gives, and what a call may rely on once none of its checks refused it.
+use Prim.Native.Nat.{ℕ, zero, suc, _+_, _≤_, _<_}
+use mathlib.Core.Bool.{Bool, true, false, not, _&&_, _||_, and-false}
+use mathlib.Core.Path.{_≡_, refl}
+use mathlib.Core.List.{List}
+use mathlib.Core.Option.{Option, none, some}
+use native.Mathlib.Omega.{arith}
+use lib.Dec.{eqb, ltb}
+use lib.ListN.{length}
+use borrow.Author.Tests.{ltb-true, ltb-false, lt-ltb, le-ltb, eq-eqb, not-false}
+use Rattle.model.specs.declared.Geometry.{Geometry}
+use Rattle.model.specs.Search.{firstFrom, isSome, anyFrom}
+use Rattle.model.specs.Geometry.{allowed, partitions, capacity, memoryNeed, flashNeed}
+use Rattle.model.specs.Keys.{pageOf}
+use Rattle.model.specs.Page.{countOf}
+use Rattle.model.specs.Partition.{headOf, flushesOf, listedOf, bufferOf, isLive}
+use Rattle.model.specs.Answers.{Areas, Refusal, unread}
+use Rattle.model.specs.Refusals.{refuseIf, headOverfull, pageOverfull, keyOverfull, somePageOverfull, lastFlush}
+use Rattle.model.specs.Format.{formatChecks}
+use Rattle.model.specs.Flush.{inUse, flushChecks}
+use Rattle.model.specs.Put.{due, putChecks}
+use Rattle.model.specs.Get.{getChecks}
+use Rattle.model.specs.Del.{isListed, stampFor, delChecks}
+use Rattle.model.specs.View.{viewChecks}
+use Rattle.model.proofs.Tests.{neither}
+use Rattle.model.proofs.Searching.{first-none}
+
+-- a refusal that was not given: its condition does not hold, nor do those after it
+pub refuse-none : (b : Bool) (n : ℕ) (later : Option Refusal) → refuseIf b n later ≡ none → (b ≡ false) × (later ≡ none)
+refuse-none true n later h = let z : _≡_ {A = ℕ} 0 1 = cc in absurd (omega arith)
+refuse-none false n later h = (refl, h)
+
+-- a test that none passes
+any-none : (n i : ℕ) (test : ℕ → Bool) → ((j : ℕ) → j < i + n → test j ≡ false) → anyFrom n i test ≡ false
+unfolding firstFrom
+any-none zero i test h = refl
+any-none (suc n) i test h = rw (h i (omega arith)) (any-none n (i + 1) test (λ j l. h j (omega arith)))
+
+none-found : (o : Option ℕ) → isSome o ≡ false → o ≡ none
+none-found none e = refl
+none-found (some x) e = let z : _≡_ {A = ℕ} 0 1 = cc in absurd (omega arith)
+
+-- ---- 12, of a buffer page, of the pages, and for a call with a key
+module _ (g : Geometry) (p : List ℕ) where
+  pub page-fits : (q : ℕ) → pageOverfull g p q ≡ false → countOf (bufferOf g p q) ≤ capacity g
+  unfolding pageOverfull
+  page-fits q e = ltb-false _ _ e
+
+  pub fits-page : (q : ℕ) → countOf (bufferOf g p q) ≤ capacity g → pageOverfull g p q ≡ false
+  unfolding pageOverfull
+  fits-page q l = le-ltb _ _ l
+
+  pub pages-fit : somePageOverfull g p ≡ false → (q : ℕ) → q < g .pages → countOf (bufferOf g p q) ≤ capacity g
+  unfolding somePageOverfull
+  pages-fit e q l = page-fits q (first-none (pageOverfull g p) (g .pages) 0 (none-found _ e) q (omega arith) (omega arith))
+
+  pub fits-pages : ((q : ℕ) → q < g .pages → countOf (bufferOf g p q) ≤ capacity g) → somePageOverfull g p ≡ false
+  unfolding somePageOverfull
+  fits-pages h = any-none (g .pages) 0 (pageOverfull g p) (λ q l. fits-page q (h q (omega arith)))
+
+  module _ (k : ℕ) where
+    pub key-fits : keyOverfull g k p ≡ false → (headOverfull g (headOf p) ≡ false) × (countOf (bufferOf g p (pageOf g k)) ≤ capacity g)
+    unfolding keyOverfull
+    key-fits e = let w = neither (headOverfull g (headOf p)) (pageOverfull g p (pageOf g k)) e in (w .0, page-fits (pageOf g k) (w .1))
+
+    pub fits-key : headOverfull g (headOf p) ≡ false → countOf (bufferOf g p (pageOf g k)) ≤ capacity g → keyOverfull g k p ≡ false
+    unfolding keyOverfull
+    fits-key e l = rw (e, fits-page (pageOf g k) l)
+
+-- ---- format: 1, 2, 3
+module _ (g : Geometry) (a : Areas) where
+  pub format-1 : allowed g ≡ false → formatChecks g a ≡ some (unread 1)
+  unfolding formatChecks
+  format-1 e = rw e
+
+  module _ (fine : allowed g ≡ true) where
+    pub format-2 : length (a .memory) < memoryNeed g → formatChecks g a ≡ some (unread 2)
+    unfolding formatChecks
+    format-2 l = rw (fine, lt-ltb _ _ l)
+
+    pub format-3 : memoryNeed g ≤ length (a .memory) → length (a .flash) < flashNeed g → formatChecks g a ≡ some (unread 3)
+    unfolding formatChecks
+    format-3 m l = rw (fine, le-ltb _ _ m, lt-ltb _ _ l)
+
+    pub format-passes : memoryNeed g ≤ length (a .memory) → flashNeed g ≤ length (a .flash) → formatChecks g a ≡ none
+    unfolding formatChecks
+    format-passes m l = rw (fine, le-ltb _ _ m, le-ltb _ _ l)
+
+  pub format-accepted : formatChecks g a ≡ none → (allowed g ≡ true) × (memoryNeed g ≤ length (a .memory)) × (flashNeed g ≤ length (a .flash))
+  unfolding formatChecks
+  format-accepted e =
+      let one = refuse-none (not (allowed g)) 1 _ e in
+      let two = refuse-none (ltb (length (a .memory)) (memoryNeed g)) 2 _ (one .1) in
+      let three = refuse-none (ltb (length (a .flash)) (flashNeed g)) 3 none (two .1) in
+      (not-false (allowed g) (one .0), ltb-false _ _ (two .0), ltb-false _ _ (three .0))
+
+-- ---- put: 12, 16
+module _ (g : Geometry) (k : ℕ) (p : List ℕ) where
+  pub put-12 : keyOverfull g k p ≡ true → putChecks g k p ≡ some (unread 12)
+  unfolding putChecks
+  put-12 e = rw e
+
+  module _ (fits : keyOverfull g k p ≡ false) where
+    pub put-undue : due g k p ≡ false → putChecks g k p ≡ none
+    unfolding putChecks
+    put-undue e = rw (fits, e)
+
+    module _ (is-due : due g k p ≡ true) where
+      pub put-12-due : somePageOverfull g p ≡ true → putChecks g k p ≡ some (unread 12)
+      unfolding putChecks
+      put-12-due e = rw (fits, is-due, e)
+
+    -- with pages that fit, only a flush number can be wanting
+    pub put-last : somePageOverfull g p ≡ false → putChecks g k p ≡ refuseIf (due g k p && eqb (flushesOf p) lastFlush) 16 none
+    unfolding putChecks
+    put-last e = rw (fits, e, and-false)
+
+  pub put-accepted : putChecks g k p ≡ none → (keyOverfull g k p ≡ false) × (due g k p && somePageOverfull g p ≡ false) × (due g k p && eqb (flushesOf p) lastFlush ≡ false)
+  unfolding putChecks
+  put-accepted e =
+      let one = refuse-none (keyOverfull g k p) 12 _ e in
+      let two = refuse-none (due g k p && somePageOverfull g p) 12 _ (one .1) in
+      let three = refuse-none (due g k p && eqb (flushesOf p) lastFlush) 16 none (two .1) in
+      (one .0, two .0, three .0)
+
+  -- ---- get: 12
+  pub get-12 : keyOverfull g k p ≡ true → getChecks g k p ≡ some (unread 12)
+  unfolding getChecks
+  get-12 e = rw e
+
+  pub get-passes : keyOverfull g k p ≡ false → getChecks g k p ≡ none
+  unfolding getChecks
+  get-passes e = rw e
+
+  -- ---- del: 12, 14
+  pub del-12 : keyOverfull g k p ≡ true → delChecks g k p ≡ some (unread 12)
+  unfolding delChecks
+  del-12 e = rw e
+
+  -- with what fits, only a place in the list can be wanting
+  pub del-full : keyOverfull g k p ≡ false
+      → delChecks g k p ≡ refuseIf (not (isListed g k p) && isSome (stampFor g k p) && eqb (listedOf p) (g .list)) 14 none
+  unfolding delChecks
+  del-full e = rw e
+
+  pub del-accepted : delChecks g k p ≡ none
+      → (keyOverfull g k p ≡ false) × (not (isListed g k p) && isSome (stampFor g k p) && eqb (listedOf p) (g .list) ≡ false)
+  unfolding delChecks
+  del-accepted e =
+      let one = refuse-none (keyOverfull g k p) 12 _ e in
+      (one .0, refuse-none (not (isListed g k p) && isSome (stampFor g k p) && eqb (listedOf p) (g .list)) 14 none (one .1) .0)
+
+-- ---- flush: 4, 12, 15, 16
+module _ (g : Geometry) (t : ℕ) (p : List ℕ) where
+  pub flush-4 : partitions g ≤ t → flushChecks g t p ≡ some (unread 4)
+  unfolding flushChecks
+  flush-4 l = rw (le-ltb t (partitions g) l)
+
+  module _ (below : t < partitions g) where
+    pub flush-12 : headOverfull g (headOf p) ≡ true → flushChecks g t p ≡ some (unread 12)
+    unfolding flushChecks
+    flush-12 e = rw (lt-ltb t (partitions g) below, e)
+
+    module _ (head : headOverfull g (headOf p) ≡ false) where
+      pub flush-12-page : somePageOverfull g p ≡ true → flushChecks g t p ≡ some (unread 12)
+      unfolding flushChecks
+      flush-12-page e = rw (lt-ltb t (partitions g) below, head, e)
+
+      -- with what fits, only an entry or a flush number can be wanting
+      pub flush-last : somePageOverfull g p ≡ false → flushChecks g t p ≡ refuseIf (not (inUse g p)) 15 (refuseIf (eqb (flushesOf p) lastFlush) 16 none)
+      unfolding flushChecks
+      flush-last e = rw (lt-ltb t (partitions g) below, head, e)
+
+  pub flush-accepted : flushChecks g t p ≡ none
+      → (t < partitions g) × (headOverfull g (headOf p) ≡ false) × (somePageOverfull g p ≡ false) × (inUse g p ≡ true) × (eqb (flushesOf p) lastFlush ≡ false)
+  unfolding flushChecks
+  flush-accepted e =
+      let one = refuse-none (not (ltb t (partitions g))) 4 _ e in
+      let two = refuse-none (headOverfull g (headOf p)) 12 _ (one .1) in
+      let three = refuse-none (somePageOverfull g p) 12 _ (two .1) in
+      let four = refuse-none (not (inUse g p)) 15 _ (three .1) in
+      let five = refuse-none (eqb (flushesOf p) lastFlush) 16 none (four .1) in
+      (ltb-true t (partitions g) (not-false _ (one .0)), two .0, three .0, not-false _ (four .0), five .0)
+
+-- ---- view: 4, 12, 17
+module _ (g : Geometry) (t q n : ℕ) (p : List ℕ) where
+  pub view-4 : not (ltb t (partitions g)) || not (ltb q (g .pages)) ≡ true → viewChecks g t q n p ≡ some (unread 4)
+  unfolding viewChecks
+  view-4 e = rw e
+
+  module _ (below : t < partitions g) (page : q < g .pages) where
+    pub view-12 : headOverfull g (headOf p) ≡ true → viewChecks g t q n p ≡ some (unread 12)
+    unfolding viewChecks
+    view-12 e = rw (lt-ltb t (partitions g) below, lt-ltb q (g .pages) page, e)
+
+    module _ (head : headOverfull g (headOf p) ≡ false) where
+      pub view-12-page : n ≡ 0 → pageOverfull g p q ≡ true → viewChecks g t q n p ≡ some (unread 12)
+      unfolding viewChecks
+      view-12-page z e = rw (lt-ltb t (partitions g) below, lt-ltb q (g .pages) page, head, eq-eqb n 0 z, e)
+
+      -- with what fits, only a live batch can be wanting
+      pub view-last : eqb n 0 && pageOverfull g p q ≡ false → viewChecks g t q n p ≡ refuseIf (not (eqb n 0) && not (isLive g (headOf p) n)) 17 none
+      unfolding viewChecks
+      view-last e = rw (lt-ltb t (partitions g) below, lt-ltb q (g .pages) page, head, e)
