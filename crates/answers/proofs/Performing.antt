@@ -2,28 +2,18 @@
 use Prim.Native.Nat.{ℕ}
 use mathlib.Core.List.{List}
 use mathlib.Core.Option.{none, some}
-use mathlib.Core.Path.{_≡_, refl, sym}
-use Rattle.model.specs.Answers.{Areas, Answer, done, found, absent, shown, refused}
-use Rattle.model.specs.Calls.{Call, checks, result, reply, effect, unlessRefused, after}
+use mathlib.Core.Path.{_≡_, sym, _∙_}
+use Rattle.model.specs.Answers.{Refusal, Answer, done, refused}
+use Rattle.model.specs.Calls.{Call, checks, result, effect}
+use Rattle.model.proofs.Calls.{reply-refused, after-refused, reply-accepted, after-done, after-same}
 use Rattle.answers.specs.Performs.{areas, Performs}
 
--- a refused call changes no byte
-unchanged : (r : Answer) (a : Areas) → unlessRefused r a a ≡ a
-unchanged (done n) a = refl
-unchanged (found v r p) a = refl
-unchanged (absent r) a = refl
-unchanged (shown s) a = refl
-unchanged (refused n r) a = refl
-
 module _ (c : Call) (m f : List ℕ) where
-  pub refusing : (n : ℕ) → checks (areas m f) c ≡ some n → Performs c m f (refused n 0) m f
-  unfolding reply after
-  refusing n h = record { answers = simp h; leaves = simp h }
+  pub refusing : (r : Refusal) → checks (areas m f) c ≡ some r → Performs c m f (refused (r .number) (r .reads)) m f
+  refusing r h = record { answers = sym (reply-refused (areas m f) c r h); leaves = sym (after-refused (areas m f) c r h) }
 
   pub doing : (n : ℕ) (m′ f′ : List ℕ) → checks (areas m f) c ≡ none → result (areas m f) c ≡ done n → effect (areas m f) c ≡ areas m′ f′ → Performs c m f (done n) m′ f′
-  unfolding reply after
-  doing n m′ f′ h e k = record { answers = simp (h, e); leaves = simp (h, e, k) }
+  doing n m′ f′ h e k = record { answers = sym (reply-accepted (areas m f) c h ∙ e); leaves = sym (after-done (areas m f) c h n e ∙ k) }
 
   pub looking : (r : Answer) → checks (areas m f) c ≡ none → result (areas m f) c ≡ r → effect (areas m f) c ≡ areas m f → Performs c m f r m f
-  unfolding reply after
-  looking r h e k = record { answers = simp (h, e); leaves = simp (h, e, k) (sym (unchanged r (areas m f))) }
+  looking r h e k = record { answers = sym (reply-accepted (areas m f) c h ∙ e); leaves = sym (after-same (areas m f) c k) }

@@ -1,9 +1,27 @@
 // What the calls answer. specs/Told.antt gives the paper's number and values for each case.
+ghost use mathlib.Core.Path.{_≡_};
+ghost use Rattle.model.specs.Answers.{unread};
+ghost use Rattle.answers.specs.Told.{asRefusal};
 
 // A refusal: its number, and the pages read before it.
 pub struct Refusal {
     pub number: u32,
     pub reads: u32,
+}
+
+impl Refusal {
+    // One that comes before any page is read.
+    pub fn unread(number: u32) -> Self
+        ensures { λ r. ⌜ asRefusal r ≡ unread number ⌝ }
+    {
+        Self { number, reads: 0 }
+    }
+}
+
+// Do the checks of a call stop it, and with which refusal?
+pub enum Verdict {
+    Accepted,
+    Refused(Refusal),
 }
 
 // format, put, del, flush: the pages written.
@@ -18,16 +36,21 @@ pub enum Place {
     Batch(u32),
 }
 
+// What a get has cost: the pages read.
+pub struct Tally {
+    pub reads: u32,
+}
+
 pub struct Hit {
     pub value: u64,
-    pub reads: u32,
+    pub tally: Tally,
     pub place: Place,
 }
 
-// get: what was found, or none after so many reads.
+// get: what was found, or none; with its cost.
 pub enum Answer {
     Found(Hit),
-    Missing(u32),
+    Absent(Tally),
     Refused(Refusal),
 }
 

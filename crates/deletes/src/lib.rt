@@ -3,13 +3,13 @@ ghost use mathlib.Core.Path.{_≡_};
 ghost use Prim.Native.Nat.{_+_, _*_, _≤_, _<_};
 ghost use lib.ListN.{length};
 ghost use Rattle.model.specs.DeleteList.{listedAt, enlisted, struck, expired, unexpired};
-ghost use Rattle.records.specs.Found.{place};
+ghost use Rattle.records.specs.Found.{foundAt};
 use records::Found;
 
 // The first entry of the key.
 pub fn find(list: &[u8], n: usize, key: u64) -> Found
     requires { ⌜ 16 * n ≤ length (now list) ⌝ }
-    ensures { λ r. ⌜ place r ≡ listedAt n key (now (list .entry)) ⌝ }
+    ensures { λ r. ⌜ foundAt r ≡ listedAt n key (now (list .entry)) ⌝ }
 {
     records::search(list, key, n, 0)
 }

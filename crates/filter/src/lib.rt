@@ -1,4 +1,4 @@
-// One Bloom filter, `at` bytes into a slice. A key comes mixed, since one mixing serves many filters.
+// The Bloom filters of a partition, by slot. A key comes mixed, since one mixing serves many filters.
 ghost use mathlib.Core.Bool.{true};
 ghost use mathlib.Core.Path.{_≡_};
 ghost use Prim.Native.Nat.{ℕ, _+_, _*_, _≤_, _<_};
@@ -8,7 +8,7 @@ ghost use Rattle.model.specs.Geometry.{allowed, capacity, filterSize, filterAt,
 ghost use Rattle.model.specs.Keys.{bitOf};
 ghost use Rattle.model.specs.Page.{countOf};
 ghost use Rattle.model.specs.Filter.{passes, withBits, withEntries, filterFor};
-ghost use Rattle.model.specs.Partition.{bufferOf};
+ghost use Rattle.model.specs.Partition.{bufferOf, slotBits};
 use model::Geometry;
 
 // Where bit i of a key is.
@@ -22,16 +22,18 @@ fn bit_of(g: Geometry, x: u64, i: u32) -> usize
     (place & (g.bits as u64 - 1)) as usize
 }
 
-// Has the filter all bits of the key?
-pub fn has(s: &[u8], at: usize, g: Geometry, x: u64) -> bool
+// Does slot j's filter of a partition pass the key?
+pub fn passes(part: &[u8], g: Geometry, j: u32, x: u64) -> bool
     requires { ⌜ allowed g ≡ true ⌝ }
-    requires { ⌜ at + filterSize g ≤ length (now s) ⌝ }
-    ensures { λ r. ⌜ r ≡ passes g x (mid at (filterSize g) (now (s .entry))) ⌝ }
+    requires { ⌜ j < g .kept ⌝ }
+    requires { ⌜ length (now part) ≡ stride g ⌝ }
+    ensures { λ r. ⌜ r ≡ passes g x (slotBits g (now (part .entry)) j) ⌝ }
 {
+    let at = geometry::filter_at(g, j);
     let mut i = 0;
     while i < g.hashes {
         let b = bit_of(g, x, i);
-        if (s[at + b / 8] >> (b % 8)) % 2 == 0 {
+        if (part[at + b / 8] >> (b % 8)) % 2 == 0 {
             return false;
         }
         i += 1;

@@ -5,54 +5,39 @@ ghost use Prim.Native.Nat.{_≤_, _<_};
 ghost use lib.ListN.{length};
 ghost use Rattle.model.specs.Bytes.{within};
 ghost use Rattle.model.specs.Geometry.{allowed, partitions, stride, partitionAt, memoryNeed, flashNeed};
-ghost use Rattle.model.specs.DeleteList.{unexpired};
-ghost use Rattle.model.specs.Partition.{partition, flushesOf, listOf};
+ghost use Rattle.model.specs.Partition.{partition, flushesOf};
 ghost use Rattle.model.specs.Refusals.{lastFlush};
 ghost use Rattle.model.specs.Format.{emptiedPages};
-ghost use Rattle.model.specs.Flush.{inUse, flushChecks, delisted, flushed, written};
+ghost use Rattle.model.specs.Flush.{flushChecks, flushed, withBatch};
 ghost use Rattle.model.specs.Calls.{Call};
-ghost use Rattle.partition.specs.Ready.{refusal, Whole, Flushable};
+ghost use Rattle.partition.specs.Ready.{Whole, Flushable};
 ghost use Rattle.answers.specs.Told as told;
 ghost use Rattle.answers.specs.Performs.{Performs};
 ghost use Rattle.opening.specs.Opened.{IsTable};
 use answers::Refusal;
+use answers::Verdict;
 use answers::Written;
 use head::Head;
 use model::Geometry;
-use partition::Verdict;
-
-// Is some buffer page in use?
-fn is_in_use(part: &[u8], g: Geometry) -> bool
-    requires { ⌜ Whole g (now part) ⌝ }
-    ensures { λ r. ⌜ r ≡ inUse g (now (part .entry)) ⌝ }
-{
-    let mut q = 0;
-    while q < g.pages {
-        if partition::buffer_count(part, g, q) != 0 {
-            return true;
-        }
-        q += 1;
-    }
-    false
-}
 
 // 12, 15, 16.
 pub fn decide(part: &[u8], g: Geometry, t: u32) -> Verdict
     requires { ⌜ Whole g (now part) ⌝ }
     requires { ⌜ t < partitions g ⌝ }
-    ensures { λ r. ⌜ refusal r ≡ flushChecks g t (now (part .entry)) ⌝ }
+    ensures { λ r. ⌜ told.verdict r ≡ flushChecks g t (now (part .entry)) ⌝ }
 {
-    if partition::is_list_overfull(part, g) {
-        return Verdict::Refused(12);
+    let head = Head::read(part);
+    if head.is_overfull(g) {
+        return Verdict::Refused(Refusal::unread(12));
     }
-    if partition::is_some_page_overfull(part, g) {
-        return Verdict::Refused(12);
+    if partition::buffer::is_some_page_overfull(part, g) {
+        return Verdict::Refused(Refusal::unread(12));
     }
-    if !is_in_use(part, g) {
-        return Verdict::Refused(15);
+    if !partition::buffer::is_in_use(part, g) {
+        return Verdict::Refused(Refusal::unread(15));
     }
-    if words::u32_at(part, 0) == 4294967295 {
-        return Verdict::Refused(16);
+    if head.flushes == 4294967295 {
+        return Verdict::Refused(Refusal::unread(16));
     }
     Verdict::Accepted
 }
@@ -63,10 +48,10 @@ fn move_batch(part: &mut [u8], flash: &mut [u8], g: Geometry, t: u32)
     requires { ⌜ t < partitions g ⌝ }
     requires { ⌜ flushesOf (now part) < lastFlush ⌝ }
     requires { ⌜ flashNeed g ≤ length (now flash) ⌝ }
-    ensures { λ _. ⌜ (now (part .exit) ≡ emptiedPages g t (g .pages) (now (part .entry))) × (now (flash .exit) ≡ written g t (now (part .entry)) (g .pages) (now (flash .entry))) ⌝ }
+    ensures { λ _. ⌜ (now (part .exit) ≡ emptiedPages g t (g .pages) (now (part .entry))) × (now (flash .exit) ≡ withBatch g t (now (part .entry)) (g .pages) (now (flash .entry))) ⌝ }
 {
-    let n = words::u32_at(part, 0) + 1;
-    let j = partition::slot_of(g, n);
+    let n = Head::read(part).flushes + 1;
+    let j = partition::batches::slot_of(g, n);
     let pages = g.pages;
     let size = g.page as usize;
     let mut q = 0;
@@ -74,19 +59,9 @@ fn move_batch(part: &mut [u8], flash: &mut [u8], g: Geometry, t: u32)
         let at = geometry::slot_page_at(g, t, j, q);
         let from = geometry::buffer_at(g, q);
         page::copy_numbered(flash, at, part, from, size, n);
-        partition::empty_page(part, g, t, q);
+        partition::buffer::empty_page(part, g, t, q);
         q += 1;
     }
-}
-
-// The list loses the entries that expire; tells how many stay.
-fn expire(part: &mut [u8], g: Geometry, flushes: u32, listed: u32) -> usize
-    requires { ⌜ Whole g (now part) ⌝ }
-    requires { ⌜ listed ≤ g .list ⌝ }
-    ensures { λ r. ⌜ (now (part .exit) ≡ delisted g flushes listed (now (part .entry))) × (r ≡ unexpired (g .kept) flushes listed (listOf g (now (part .entry)))) ⌝ }
-{
-    let e = 16 + 16 * g.list as usize;
-    deletes::expire(&mut part[16..e], listed as usize, g.kept, flushes)
 }
 
 // The partition and flash after the flush.
@@ -94,13 +69,13 @@ pub fn apply(part: &mut [u8], flash: &mut [u8], g: Geometry, t: u32)
     requires { ⌜ Whole g (now part) ⌝ }
     requires { ⌜ Flushable g t (now part) ⌝ }
     requires { ⌜ flashNeed g ≤ length (now flash) ⌝ }
-    ensures { λ _. ⌜ (now (part .exit) ≡ flushed g t (now (part .entry))) × (now (flash .exit) ≡ written g t (now (part .entry)) (g .pages) (now (flash .entry))) ⌝ }
+    ensures { λ _. ⌜ (now (part .exit) ≡ flushed g t (now (part .entry))) × (now (flash .exit) ≡ withBatch g t (now (part .entry)) (g .pages) (now (flash .entry))) ⌝ }
 {
     let head = Head::read(part);
     let flushes = head.flushes;
     let listed = head.listed;
-    filter::make(part, g, partition::slot_of(g, flushes + 1));
-    let stay = expire(part, g, flushes, listed);
+    filter::make(part, g, partition::batches::slot_of(g, flushes + 1));
+    let stay = partition::list::expire(part, g, flushes, listed);
     move_batch(part, flash, g, t);
     head::put_back(part, head.flushed().unlisted(listed - stay as u32));
 }
@@ -111,7 +86,7 @@ pub fn apply_at(memory: &mut [u8], flash: &mut [u8], g: Geometry, t: u32)
     requires { ⌜ memoryNeed g ≤ length (now memory) ⌝ }
     requires { ⌜ Flushable g t (partition g t (now memory)) ⌝ }
     requires { ⌜ flashNeed g ≤ length (now flash) ⌝ }
-    ensures { λ _. ⌜ (now (memory .exit) ≡ within (partitionAt g t) (stride g) (flushed g t) (now (memory .entry))) × (now (flash .exit) ≡ written g t (partition g t (now (memory .entry))) (g .pages) (now (flash .entry))) ⌝ }
+    ensures { λ _. ⌜ (now (memory .exit) ≡ within (partitionAt g t) (stride g) (flushed g t) (now (memory .entry))) × (now (flash .exit) ≡ withBatch g t (partition g t (now (memory .entry))) (g .pages) (now (flash .entry))) ⌝ }
 {
     let a = geometry::partition_at(g, t);
     let e = a + geometry::partition_size(g);
@@ -124,13 +99,10 @@ pub fn call(memory: &mut [u8], flash: &mut [u8], g: Geometry, t: u32) -> Written
     ensures { λ r. ⌜ Performs (Call.flush t) (now (memory .entry)) (now (flash .entry)) (told.written r) (now (memory .exit)) (now (flash .exit)) ⌝ }
 {
     if geometry::partition_count(g) <= t {
-        return Written::Refused(Refusal {
-            number: 4,
-            reads: 0,
-        });
+        return Written::Refused(Refusal::unread(4));
     }
     match decide(partition::part_of(memory, g, t), g, t) {
-        Verdict::Refused(number) => Written::Refused(Refusal { number, reads: 0 }),
+        Verdict::Refused(refusal) => Written::Refused(refusal),
         Verdict::Accepted => {
             apply_at(memory, flash, g, t);
             Written::Done(g.pages)

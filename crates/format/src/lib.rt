@@ -7,26 +7,25 @@ ghost use Rattle.model.specs.Geometry.{allowed, partitions, memoryNeed};
 ghost use Rattle.model.specs.Opening.{withOpening};
 ghost use Rattle.model.specs.Format.{formatChecks, emptiedPartitions, formatted};
 ghost use Rattle.model.specs.Calls.{Call};
-ghost use Rattle.partition.specs.Ready.{refusal};
 ghost use Rattle.answers.specs.Told as told;
 ghost use Rattle.answers.specs.Performs.{Performs};
 use answers::Refusal;
+use answers::Verdict;
 use answers::Written;
 use model::Geometry;
-use partition::Verdict;
 
 // 1, 2, 3.
 pub fn decide(memory: &[u8], flash: &[u8], g: Geometry) -> Verdict
-    ensures { λ r. ⌜ refusal r ≡ formatChecks g (record { memory = now (memory .entry); flash = now (flash .entry) }) ⌝ }
+    ensures { λ r. ⌜ told.verdict r ≡ formatChecks g (record { memory = now (memory .entry); flash = now (flash .entry) }) ⌝ }
 {
     if !geometry::is_allowed(g) {
-        return Verdict::Refused(1);
+        return Verdict::Refused(Refusal::unread(1));
     }
     if memory.len() < geometry::memory_need(g) {
-        return Verdict::Refused(2);
+        return Verdict::Refused(Refusal::unread(2));
     }
     if flash.len() < geometry::flash_need(g) {
-        return Verdict::Refused(3);
+        return Verdict::Refused(Refusal::unread(3));
     }
     Verdict::Accepted
 }
@@ -58,7 +57,7 @@ fn empty_partitions(memory: &mut [u8], g: Geometry)
     while t < count {
         let a = geometry::partition_at(g, t);
         let e = a + size;
-        partition::empty_pages(&mut memory[a..e], g, t);
+        partition::buffer::empty_pages(&mut memory[a..e], g, t);
         t += 1;
     }
 }
@@ -78,7 +77,7 @@ pub fn call(memory: &mut [u8], flash: &[u8], g: Geometry) -> Written
     ensures { λ r. ⌜ Performs (Call.format g) (now (memory .entry)) (now (flash .entry)) (told.written r) (now (memory .exit)) (now (flash .entry)) ⌝ }
 {
     match decide(memory, flash, g) {
-        Verdict::Refused(number) => Written::Refused(Refusal { number, reads: 0 }),
+        Verdict::Refused(refusal) => Written::Refused(refusal),
         Verdict::Accepted => {
             apply(memory, g);
             Written::Done(0)

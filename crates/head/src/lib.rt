@@ -1,9 +1,12 @@
 // A partition's head, read as one record, changed and put back.
+ghost use mathlib.Core.Bool.{false};
 ghost use mathlib.Core.Path.{_≡_};
-ghost use Prim.Native.Nat.{_+_, _-_, _≤_, _<_};
+ghost use Prim.Native.Nat.{_≤_, _<_};
 ghost use lib.ListN.{length};
-ghost use Rattle.model.specs.Partition.{headOf, withHead};
+ghost use Rattle.model.specs.Partition.{headOf, flushedHead, listedHead, unlistedHead, withHead, live, isLive};
+ghost use Rattle.model.specs.Refusals.{headOverfull};
 ghost use Rattle.head.specs.Heads.{asHead};
+use model::Geometry;
 
 // Flushes done, listed keys, and 8 bytes that are carried along.
 pub struct Head {
@@ -24,10 +27,41 @@ impl Head {
         }
     }
 
+    // 12: does it say more listed keys than there are places?
+    pub fn is_overfull(self, g: Geometry) -> bool
+        ensures { λ r. ⌜ r ≡ headOverfull g (asHead self) ⌝ }
+    {
+        g.list < self.listed
+    }
+
+    // How many batches are live.
+    pub fn live(self, g: Geometry) -> u32
+        requires { ⌜ headOverfull g (asHead self) ≡ false ⌝ }
+        ensures { λ r. ⌜ r ≡ live g (asHead self) ⌝ }
+    {
+        if self.flushes < g.kept {
+            self.flushes
+        } else {
+            g.kept
+        }
+    }
+
+    // Is batch n live?
+    pub fn is_live(self, g: Geometry, n: u32) -> bool
+        requires { ⌜ headOverfull g (asHead self) ≡ false ⌝ }
+        ensures { λ r. ⌜ r ≡ isLive g (asHead self) n ⌝ }
+    {
+        let dead = self.flushes - self.live(g);
+        if n <= dead {
+            return false;
+        }
+        n <= self.flushes
+    }
+
     // One flush more.
     pub fn flushed(self) -> Self
         requires { ⌜ self .flushes < 4294967295 ⌝ }
-        ensures { λ r. ⌜ asHead r ≡ record { flushes = self .flushes + 1; listed = self .listed; rest = self .rest } ⌝ }
+        ensures { λ r. ⌜ asHead r ≡ flushedHead (asHead self) ⌝ }
     {
         Self {
             flushes: self.flushes + 1,
@@ -39,7 +73,7 @@ impl Head {
     // One listed key more.
     pub fn listed(mut self) -> Self
         requires { ⌜ self .listed < 4294967295 ⌝ }
-        ensures { λ r. ⌜ asHead r ≡ record { flushes = self .flushes; listed = self .listed + 1; rest = self .rest } ⌝ }
+        ensures { λ r. ⌜ asHead r ≡ listedHead (asHead self) ⌝ }
     {
         self.listed = self.listed + 1;
         self
@@ -48,7 +82,7 @@ impl Head {
     // n listed keys less.
     pub fn unlisted(mut self, n: u32) -> Self
         requires { ⌜ n ≤ self .listed ⌝ }
-        ensures { λ r. ⌜ asHead r ≡ record { flushes = self .flushes; listed = self .listed - n; rest = self .rest } ⌝ }
+        ensures { λ r. ⌜ asHead r ≡ unlistedHead n (asHead self) ⌝ }
     {
         self.listed = self.listed - n;
         self

@@ -7,12 +7,10 @@ use native.Mathlib.Nat.{sub-zero, pow-suc, mul-le-mul, mod-lt, div-self, div-eq-
 use native.Mathlib.Decide.{decLt, ℕ-discrete}
 use native.Mathlib.Numerals.{add-one}
 use native.Mathlib.Omega.{arith}
-use lib.Dec.{eqb}
 use lib.ListN.{length, getD, set, length-set, length-replicate}
 use lib.Seq.{take-all, getD-set-same, getD-set-other}
 use lib.Pow.{pow-pos, pow-lt, pow-add, shl-shr, shr-lt}
 use lib.Bits.{bitOr, or-shr, or-mod, or-zero-r, or-lt}
-use borrow.Author.Tests.{eq-eqb, ne-eqb}
 use Rattle.model.specs.Bytes.{word, zeros, mid, within}
 use Rattle.model.specs.Search.{anyFrom}
 use Rattle.model.specs.Geometry.{allowed, filterSize, bufferAt, stride}

@@ -1,9 +1,9 @@
--- A filter that is made has exactly the bits of its batch's entries, and so passes exactly the keys that the entries say.
+-- A filter that is made has exactly the bits of its batch's entries.
 use mathlib.Core.Path.{_≡_, refl, sym, _∙_, ap}
-use mathlib.Core.Bool.{Bool, true, false, not, _&&_, _||_, or-true, or-false, or-assoc}
+use mathlib.Core.Bool.{Bool, true, false, _||_, or-true, or-false, or-assoc}
 use mathlib.Core.List.{List, [], _∷_, _++_}
-use Prim.Native.Nat.{ℕ, zero, suc, _+_, _*_, _/_, _≤_, _<_}
-use native.Mathlib.Nat.{add-zero, zero-add, mod-lt, zero-div}
+use Prim.Native.Nat.{ℕ, zero, suc, _+_, _*_, _/_, _<_}
+use native.Mathlib.Nat.{mod-lt, zero-div}
 use native.Mathlib.Numerals.{add-one}
 use native.Mathlib.Decide.{ℕ-discrete}
 use native.Mathlib.Omega.{arith}
@@ -11,18 +11,16 @@ use lib.Dec.{eqb}
 use lib.ListN.{length, getD, replicate, length-replicate}
 use borrow.Author.Tests.{eq-eqb, ne-eqb}
 use Rattle.model.specs.Bytes.{word, zeros}
-use Rattle.model.specs.Search.{firstFrom, anyFrom}
 use Rattle.model.specs.Keys.{mixed, bitOf}
 use Rattle.model.specs.Records.{keyAt}
 use Rattle.model.specs.Page.{countOf}
 use Rattle.model.specs.Geometry.{filterSize}
-use Rattle.model.specs.Filter.{isSet, withBit, passes, withBits, withEntries, withPages, filterFor}
+use Rattle.model.specs.Filter.{isSet, withBit, withBits, withEntries, withPages, filterFor}
 use Rattle.model.specs.declared.Geometry.{Geometry}
 use Rattle.model.proofs.Words.{word-zero}
 use Rattle.model.proofs.Lengths.{length-withBits, length-withEntries, length-withPages}
 use Rattle.model.proofs.Bits.{bit-set, bit-other}
-use Rattle.model.proofs.Tests.{either}
-use Rattle.model.proofs.Tables.{Entry, any, all, anyBelow, bitsBelow, bitsOf, hasBit}
+use Rattle.model.proofs.Tables.{Entry, any, anyBelow, bitsBelow, bitsOf, hasBit}
 use Rattle.model.proofs.Entries.{entriesFrom, pageEntries, entries-last}
 
 -- the bits of a filter after one was set
@@ -87,42 +85,3 @@ module _ (g : Geometry) (size : g .bits ≡ 8 * filterSize g) (any-bit : 0 < g .
   pub set-filterFor : (page : ℕ → List ℕ) → isSet (filterFor g page) b ≡ hasBit g (λ q. pageEntries (page q)) b
   unfolding filterFor hasBit
   set-filterFor page = set-withPages page (g .pages) (zeros (filterSize g)) (length-replicate (filterSize g) 0) ∙ rw (set-zeros (filterSize g) b) (or-false _)
-
--- ---- what passes a filter
--- one more number to try
-any-last : (test : ℕ → Bool) (n i : ℕ) → anyFrom (suc n) i test ≡ test (i + n) || anyFrom n i test
-unfolding firstFrom
-any-last test zero i = rw add-zero (either (test i) (λ t. simp t) (λ t. simp t))
-any-last test (suc n) i =
-    let e : i + 1 + n ≡ i + suc n = omega arith in
-    either (test i) (λ t. simp (t, or-true)) (λ t. simp t (rw e at (any-last test n (i + 1))))
-
-not-or : (x y : Bool) → not (x || y) ≡ not x && not y
-not-or true y = refl
-not-or false y = refl
-
-not-not : (x : Bool) → not (not x) ≡ x
-not-not true = refl
-not-not false = refl
-
--- a filter passes a key each of whose bits is set
-module _ (g : Geometry) (x : ℕ) (bits : ℕ → Bool) where
-  none-missing : (n : ℕ) → not (anyFrom n 0 (λ i. not (bits (bitOf g x i)))) ≡ all bits (bitsBelow g x n)
-  unfolding firstFrom all bitsBelow
-  none-missing zero = refl
-  none-missing (suc n) =
-      ap not (any-last (λ i. not (bits (bitOf g x i))) n 0) ∙ rw (zero-add, not-or, not-not (bits (bitOf g x n)), none-missing n)
-
-  pub passes-all : passes g x bits ≡ all bits (bitsBelow g x (g .hashes))
-  unfolding passes
-  passes-all = none-missing (g .hashes)
-
--- so it is had from the bits below M alone
-module _ (g : Geometry) (any-bit : 0 < g .bits) (x : ℕ) (bits bits′ : ℕ → Bool) (same : (b : ℕ) → b < g .bits → bits b ≡ bits′ b) where
-  all-same : (n : ℕ) → all bits (bitsBelow g x n) ≡ all bits′ (bitsBelow g x n)
-  unfolding all bitsBelow bitOf
-  all-same zero = refl
-  all-same (suc n) = rw (same (bitOf g x n) (mod-lt _ any-bit), all-same n)
-
-  pub passes-same : passes g x bits ≡ passes g x bits′
-  passes-same = passes-all g x bits ∙ all-same (g .hashes) ∙ sym (passes-all g x bits′)

@@ -12,11 +12,11 @@ pub mod Tables
 pub mod Entries
 pub mod ListEntries
 pub mod FilterBits
+pub mod Passing
 pub mod Samples
 pub mod Heads
 pub mod Partitions
 pub mod PartitionsFlash
-pub mod PartitionsFilters
 pub mod PartitionsFormat
 pub mod PartitionsCalls
 pub mod Checks

@@ -1,5 +1,5 @@
 -- What a flush, a put and a del leave of each part of a partition.
-use Prim.Native.Nat.{ℕ, suc, _+_, _-_, _*_, _^_, _≤_, _<_}
+use Prim.Native.Nat.{ℕ, _+_, _-_, _*_, _^_, _<_}
 use mathlib.Core.Bool.{true, false}
 use mathlib.Core.Path.{_≡_, _∙_}
 use mathlib.Core.List.{List}
@@ -10,7 +10,7 @@ use Rattle.model.specs.declared.Geometry.{Geometry}
 use Rattle.model.specs.Geometry.{allowed, listAt, listSize, bufferAt, stride}
 use Rattle.model.specs.Keys.{partitionOf, pageOf}
 use Rattle.model.specs.Page.{stored, without, emptied}
-use Rattle.model.specs.DeleteList.{listedAt, struck, enlisted, expired, unexpired}
+use Rattle.model.specs.DeleteList.{listedAt, struck, enlisted, expired}
 use Rattle.model.specs.Filter.{isSet, filterFor}
 use Rattle.model.specs.Partition.{headOf, listedHead, unlistedHead, flushesOf, listedOf, listOf, bufferOf, slot, slotBits}
 use Rattle.model.specs.Flush.{filtered, delisted, headAfter, flushed}

@@ -1,16 +1,16 @@
 -- A table's pages and lists without their bytes: lists of entries, what is found in them after a change, and which batches' filters pass a key.
 use mathlib.Core.Path.{_≡_, refl, sym, _∙_, ap}
-use mathlib.Core.Bool.{Bool, true, false, cond, _&&_, _||_, or-true}
+use mathlib.Core.Bool.{Bool, true, false, cond, _&&_, _||_}
 use mathlib.Core.List.{List, [], _∷_, _++_}
 use mathlib.Core.Option.{Option, none, some}
-use Prim.Native.Nat.{ℕ, zero, suc, _≤_, _<_}
-use native.Mathlib.Decide.{ℕ-discrete}
+use Prim.Native.Nat.{ℕ, zero, suc, _≤_}
 use native.Mathlib.Omega.{arith}
 use lib.Dec.{eqb}
 use lib.ListN.{length}
 use borrow.Author.Tests.{eqb-true, eqb-false, eq-eqb, ne-eqb}
 use Rattle.model.specs.Search.{isSome}
 use Rattle.model.specs.Keys.{mixed, bitOf}
+use Rattle.model.specs.Filter.{passes}
 use Rattle.model.specs.declared.Geometry.{Geometry}
 use Rattle.model.proofs.Tests.{either}
 
@@ -147,7 +147,7 @@ unfoldable pub anyBelow : (ℕ → Bool) → ℕ → Bool
 anyBelow f zero = false
 anyBelow f (suc n) = f n || anyBelow f n
 
--- ---- filters: a batch passes a key each of whose bits is a bit of some entry
+-- ---- filters: the bits of a batch are those of its entries
 -- the bits 0 to i − 1 of a mixed key
 unfoldable pub bitsBelow : Geometry → ℕ → ℕ → List ℕ
 bitsBelow g x zero = []
@@ -159,38 +159,6 @@ bitsOf g k = bitsBelow g (mixed k) (g .hashes)
 unfoldable pub hasBit : Geometry → (ℕ → List Entry) → ℕ → Bool
 hasBit g pages b = anyBelow (λ q. any (λ e. any (eqb b) (bitsOf g (e .key))) (pages q)) (g .pages)
 
-unfoldable pub passesAll : Geometry → (ℕ → List Entry) → ℕ → Bool
-passesAll g pages k = all (hasBit g pages) (bitsOf g k)
-
-all-true : (f : ℕ → Bool) (l : List ℕ) → ((b : ℕ) → any (eqb b) l ≡ true → f b ≡ true) → all f l ≡ true
-unfolding all any
-all-true f [] h = refl
-all-true f (x ∷ l) h = let here : f x ≡ true = h x (simp (eq-eqb x x refl)) in let rest : all f l ≡ true = all-true f l (λ b m. h b (simp (m, or-true))) in simp (here, rest)
-
-any-found : (f : ℕ → Bool) (k v : ℕ) (l : List Entry) → find k l ≡ some v → f k ≡ true → any (λ e. f (e .key)) l ≡ true
-unfolding any find
-any-found f k v [] h t = cc
-any-found f k v (e ∷ l) h t =
-    either (eqb k (e .key)) (λ w. let here : f (e .key) ≡ true = ap f (sym (eqb-true k (e .key) w)) ∙ t in simp here)
-    (λ w. simp (any-found f k v l (simp w at h) t, or-true))
-
-anyBelow-true : (f : ℕ → Bool) (q n : ℕ) → q < n → f q ≡ true → anyBelow f n ≡ true
-unfolding anyBelow
-anyBelow-true f q zero l h = absurd (omega arith)
-anyBelow-true f q (suc n) l h = elim (ℕ-discrete q n) [
-  | yes e ↦ let here : f n ≡ true = ap f (sym e) ∙ h in simp here
-  | no e ↦ simp (anyBelow-true f q n (omega arith) h, or-true)
-]
-
--- a batch that holds the key passes it
-module _ (g : Geometry) (k : ℕ) (pages : ℕ → List Entry) (q : ℕ) (inside : q < g .pages) where
-  pub passesAll-found : (v : ℕ) → find k (pages q) ≡ some v → passesAll g pages k ≡ true
-  unfolding passesAll hasBit
-  passesAll-found v h = all-true (hasBit g pages) (bitsOf g k) (λ b m. anyBelow-true _ q (g .pages) inside (any-found (λ j. any (eqb b) (bitsOf g j)) k v _ h m))
-
-  pub not-passed : passesAll g pages k ≡ false → find k (pages q) ≡ none
-  not-passed h = go (find k (pages q)) refl
-    where
-      go : (o : Option ℕ) → find k (pages q) ≡ o → o ≡ none
-      go none e = refl
-      go (some v) e = let t = passesAll-found v e in cc
+-- a batch with these pages passes the key
+abbrev pub passesIn : Geometry → (ℕ → List Entry) → ℕ → Bool
+passesIn g pages k = passes g (mixed k) (hasBit g pages)

@@ -5,11 +5,11 @@ use Prim.Native.Nat.{ℕ, zero, suc, _+_, _*_, _/_, _%_, _^_, _≤_, _<_}
 use native.Mathlib.Nat.{zero-add, add-zero, suc-add, add-assoc, mul-assoc, one-mul, div-one, mod-one, mod-eq-of-lt, pow-zero, pow-suc, pow-succ', div-div-eq-div-mul, one-le-pow}
 use native.Mathlib.Omega.{arith}
 use lib.ListN.{length, getD, replicate}
-use lib.Seq.{sets, length-sets, take-all}
+use lib.Seq.{sets, length-sets}
 use lib.Arith.{mod-mul}
 use Rattle.model.specs.Bytes.{mid, within}
 use Rattle.model.specs.Bytes.{word, bytesOf, write}
-use Rattle.model.proofs.Parts.{Apart, within-sets, sets-mid, length-mid, sets-in, within-set, sets-append, getD-sets-in, getD-sets-out, getD-mid, getD-within-in, getD-within-out}
+use Rattle.model.proofs.Parts.{Apart, sets-in, within-set, sets-append, getD-sets-in, getD-sets-out, getD-mid, getD-within-out}
 
 -- a number is had from its bytes alone
 pub word-ext : (n : ℕ) (xs ys : List ℕ) (a b : ℕ) → ((i : ℕ) → i < n → getD xs (a + i) 0 ≡ getD ys (b + i) 0) → word n xs a ≡ word n ys b

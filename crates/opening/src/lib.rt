@@ -3,7 +3,7 @@ ghost use mathlib.Core.Path.{_≡_};
 ghost use Prim.Native.Nat.{_≤_};
 ghost use lib.ListN.{length};
 ghost use Rattle.model.specs.Opening.{geometryOf};
-ghost use Rattle.opening.specs.Opened.{refusal};
+ghost use Rattle.opening.specs.Opened.{openingNumber};
 use model::Geometry;
 
 // The numbers that memory opens with.
@@ -24,7 +24,7 @@ pub fn geometry_of(memory: &[u8]) -> Geometry
 
 // 2, 11, 2, 3, or 0 for a table. A number fits a register, and the calls read the geometry behind it.
 pub fn check(memory: &[u8], flash: &[u8]) -> u32
-    ensures { λ r. ⌜ r ≡ refusal (now (memory .entry)) (now (flash .entry)) ⌝ }
+    ensures { λ r. ⌜ r ≡ openingNumber (now (memory .entry)) (now (flash .entry)) ⌝ }
 {
     if memory.len() < 32 {
         return 2;

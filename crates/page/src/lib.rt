@@ -1,11 +1,13 @@
 // One page: a head of 16 bytes, then its entries, the records 1 to count.
+ghost use mathlib.Core.Bool.{true};
 ghost use mathlib.Core.Path.{_≡_};
 ghost use Prim.Native.Nat.{_+_, _*_, _≤_, _<_};
 ghost use lib.ListN.{length};
 ghost use mathlib.Core.Option.{none};
 ghost use Rattle.model.specs.Bytes.{mid, within};
+ghost use Rattle.model.specs.Geometry.{allowed};
 ghost use Rattle.model.specs.Page.{countOf, valueAt, searched, appended, replaced, removed, stored, without, emptied, numbered, expected};
-ghost use Rattle.records.specs.Found.{place};
+ghost use Rattle.records.specs.Found.{foundAt};
 use model::Geometry;
 use records::Found;
 
@@ -26,7 +28,7 @@ pub fn value_at(page: &[u8], i: usize) -> u64
 // The first used entry with the key.
 pub fn search(page: &[u8], key: u64) -> Found
     requires { ⌜ 16 + 16 * countOf (now page) ≤ length (now page) ⌝ }
-    ensures { λ r. ⌜ place r ≡ searched key (now (page .entry)) ⌝ }
+    ensures { λ r. ⌜ foundAt r ≡ searched key (now (page .entry)) ⌝ }
 {
     records::search(page, key, count(page), 1)
 }
@@ -107,7 +109,7 @@ pub fn copy_numbered(dst: &mut [u8], at: usize, src: &[u8], from: usize, size: u
 }
 
 // Is the head that of page `number` of batch `batch` of `partition`? `&` asks all five without a branch.
-pub fn is_expected(page: &[u8], g: Geometry, partition: u32, batch: u32, number: u32) -> bool
+fn is_expected(page: &[u8], g: Geometry, partition: u32, batch: u32, number: u32) -> bool
     requires { ⌜ 16 ≤ length (now page) ⌝ }
     requires { ⌜ 32 ≤ g .page ⌝ }
     ensures { λ r. ⌜ r ≡ expected g partition batch number (now (page .entry)) ⌝ }
@@ -118,4 +120,21 @@ pub fn is_expected(page: &[u8], g: Geometry, partition: u32, batch: u32, number:
         & (words::u16_at(page, 4) as u32 == partition)
         & (words::u16_at(page, 6) == 0)
         & (words::u32_at(page, 8) == batch)
+}
+
+// The same of the page that begins at `at` in flash.
+pub fn is_expected_at(
+    flash: &[u8],
+    at: usize,
+    g: Geometry,
+    partition: u32,
+    batch: u32,
+    number: u32,
+) -> bool
+    requires { ⌜ allowed g ≡ true ⌝ }
+    requires { ⌜ at + g .page ≤ length (now flash) ⌝ }
+    ensures { λ r. ⌜ r ≡ expected g partition batch number (mid at (g .page) (now (flash .entry))) ⌝ }
+{
+    let e = at + g.page as usize;
+    is_expected(&flash[at..e], g, partition, batch, number)
 }

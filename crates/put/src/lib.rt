@@ -1,16 +1,16 @@
 // The put: into one partition, and as a call on whole areas.
-ghost use mathlib.Core.Bool.{true};
+ghost use mathlib.Core.Bool.{true, false};
 ghost use mathlib.Core.Path.{_≡_};
-ghost use Prim.Native.Nat.{_≤_, _<_};
+ghost use Prim.Native.Nat.{_≤_};
 ghost use lib.ListN.{length};
 ghost use Rattle.model.specs.Bytes.{within};
-ghost use Rattle.model.specs.Geometry.{allowed, listAt, listSize, stride, partitionAt, memoryNeed};
+ghost use Rattle.model.specs.Geometry.{allowed, stride, partitionAt, memoryNeed};
 ghost use Rattle.model.specs.Keys.{partitionOf};
-ghost use Rattle.model.specs.DeleteList.{struck};
-ghost use Rattle.model.specs.Partition.{listedOf, partition};
+ghost use Rattle.model.specs.Partition.{headOf, partition};
+ghost use Rattle.model.specs.Refusals.{headOverfull, keyOverfull};
 ghost use Rattle.model.specs.Put.{due, unlisted, buffered};
 ghost use Rattle.model.specs.Calls.{Call};
-ghost use Rattle.partition.specs.Ready.{Whole, Countable, Storable};
+ghost use Rattle.partition.specs.Ready.{Whole, Storable};
 ghost use Rattle.answers.specs.Told.{written};
 ghost use Rattle.answers.specs.Performs.{Performs};
 ghost use Rattle.opening.specs.Opened.{IsTable};
@@ -23,7 +23,7 @@ use records::Found;
 
 // What a put does: nothing but refuse, store, or flush first.
 pub enum Plan {
-    Refused(u32),
+    Refused(Refusal),
     Store,
     Flush,
 }
@@ -31,14 +31,14 @@ pub enum Plan {
 // Is the key new to its page, and the page full? Most are not full, and only a full one is searched.
 fn is_due(part: &[u8], g: Geometry, key: u64) -> bool
     requires { ⌜ Whole g (now part) ⌝ }
-    requires { ⌜ Countable g key (now part) ⌝ }
+    requires { ⌜ keyOverfull g key (now part) ≡ false ⌝ }
     ensures { λ r. ⌜ r ≡ due g key (now (part .entry)) ⌝ }
 {
     let q = geometry::page_of(g, key);
-    if partition::buffer_count(part, g, q) != geometry::page_capacity(g) {
+    if partition::buffer::count(part, g, q) != geometry::page_capacity(g) {
         return false;
     }
-    match partition::find_buffered(part, g, q, key) {
+    match partition::buffer::find(part, g, q, key) {
         Found::At(_) => false,
         Found::Nothing => true,
     }
@@ -50,71 +50,49 @@ pub fn decide(part: &[u8], g: Geometry, key: u64) -> Plan
     ensures { λ r. ⌜ r ≡ planFor g key (now (part .entry)) ⌝ }
 {
     if partition::is_overfull(part, g, key) {
-        return Plan::Refused(12);
+        return Plan::Refused(Refusal::unread(12));
     }
     if !is_due(part, g, key) {
         return Plan::Store;
     }
-    let flushes = words::u32_at(part, 0);
-    if partition::is_some_page_overfull(part, g) {
-        return Plan::Refused(12);
+    let head = Head::read(part);
+    if partition::buffer::is_some_page_overfull(part, g) {
+        return Plan::Refused(Refusal::unread(12));
     }
-    if flushes == 4294967295 {
-        return Plan::Refused(16);
+    if head.flushes == 4294967295 {
+        return Plan::Refused(Refusal::unread(16));
     }
     Plan::Flush
-}
-
-// Entry i of the n listed keys leaves the list.
-fn strike(part: &mut [u8], g: Geometry, i: usize, n: usize)
-    requires { ⌜ Whole g (now part) ⌝ }
-    requires { ⌜ i < n ⌝ }
-    requires { ⌜ n ≤ g .list ⌝ }
-    ensures { λ _. ⌜ now (part .exit) ≡ within listAt (listSize g) (struck i n) (now (part .entry)) ⌝ }
-{
-    let e = 16 + 16 * g.list as usize;
-    deletes::strike(&mut part[16..e], i, n);
 }
 
 // The key's first list entry leaves, if it has one.
 fn unlist(part: &mut [u8], g: Geometry, key: u64)
     requires { ⌜ Whole g (now part) ⌝ }
-    requires { ⌜ listedOf (now part) ≤ g .list ⌝ }
+    requires { ⌜ headOverfull g (headOf (now part)) ≡ false ⌝ }
     ensures { λ _. ⌜ now (part .exit) ≡ unlisted g key (now (part .entry)) ⌝ }
 {
-    match partition::find_listed(part, g, key) {
+    match partition::list::find(part, g, key) {
         Found::At(i) => {
             let head = Head::read(part);
-            strike(part, g, i, head.listed as usize);
+            partition::list::strike(part, g, i, head.listed as usize);
             head::put_back(part, head.unlisted(1));
         }
         Found::Nothing => {}
     }
 }
 
-// The key has the value in its buffer page.
-fn store(part: &mut [u8], g: Geometry, key: u64, value: u64)
-    requires { ⌜ Whole g (now part) ⌝ }
-    requires { ⌜ Storable g key (now part) ⌝ }
-    ensures { λ _. ⌜ now (part .exit) ≡ buffered g key value (now (part .entry)) ⌝ }
-{
-    let a = geometry::buffer_at(g, geometry::page_of(g, key));
-    let e = a + g.page as usize;
-    page::store(&mut part[a..e], key, value);
-}
-
 // The key has the value, and is listed no more.
-pub fn apply(part: &mut [u8], g: Geometry, key: u64, value: u64)
+fn store_unlisted(part: &mut [u8], g: Geometry, key: u64, value: u64)
     requires { ⌜ Whole g (now part) ⌝ }
     requires { ⌜ Storable g key (now part) ⌝ }
     ensures { λ _. ⌜ now (part .exit) ≡ unlisted g key (buffered g key value (now (part .entry))) ⌝ }
 {
-    store(part, g, key, value);
+    partition::buffer::store(part, g, key, value);
     unlist(part, g, key);
 }
 
-// In the key's partition: the value stored, the key unlisted.
-fn apply_at(memory: &mut [u8], g: Geometry, key: u64, value: u64)
+// The same in the key's partition of memory.
+fn store_unlisted_at(memory: &mut [u8], g: Geometry, key: u64, value: u64)
     requires { ⌜ allowed g ≡ true ⌝ }
     requires { ⌜ memoryNeed g ≤ length (now memory) ⌝ }
     requires { ⌜ Storable g key (partition g (partitionOf g key) (now memory)) ⌝ }
@@ -122,7 +100,7 @@ fn apply_at(memory: &mut [u8], g: Geometry, key: u64, value: u64)
 {
     let a = geometry::partition_at(g, geometry::partition_of(g, key));
     let e = a + geometry::partition_size(g);
-    apply(&mut memory[a..e], g, key, value);
+    store_unlisted(&mut memory[a..e], g, key, value);
 }
 
 // The whole call on an opened table.
@@ -131,14 +109,14 @@ pub fn call(memory: &mut [u8], flash: &mut [u8], g: Geometry, key: u64, value: u
     ensures { λ r. ⌜ Performs (Call.put key value) (now (memory .entry)) (now (flash .entry)) (written r) (now (memory .exit)) (now (flash .exit)) ⌝ }
 {
     match decide(partition::part_of_key(memory, g, key), g, key) {
-        Plan::Refused(number) => Written::Refused(Refusal { number, reads: 0 }),
+        Plan::Refused(refusal) => Written::Refused(refusal),
         Plan::Store => {
-            apply_at(memory, g, key, value);
+            store_unlisted_at(memory, g, key, value);
             Written::Done(0)
         }
         Plan::Flush => {
             flush::apply_at(memory, flash, g, geometry::partition_of(g, key));
-            apply_at(memory, g, key, value);
+            store_unlisted_at(memory, g, key, value);
             Written::Done(g.pages)
         }
     }

@@ -4,6 +4,6 @@ use mathlib.Core.Option.{Option, none, some}
 use Rattle.records.specs.declared.Found.{Found}
 use Rattle.records.specs.declared.Found.the-variants.{At, Nothing}
 
-abbrev pub place : Found → Option ℕ
-place (At i) = some i
-place Nothing = none
+abbrev pub foundAt : Found → Option ℕ
+foundAt (At i) = some i
+foundAt Nothing = none

@@ -5,7 +5,7 @@ ghost use lib.Dec.{eqb};
 ghost use lib.ListN.{length};
 ghost use Rattle.model.specs.Search.{anyFrom};
 ghost use Rattle.model.specs.Records.{firstRecord, closedUp};
-ghost use Rattle.records.specs.Found.{place};
+ghost use Rattle.records.specs.Found.{foundAt};
 ghost use Rattle.records.specs.Lacking.{hasKey, Lacking};
 
 pub enum Found {
@@ -49,7 +49,7 @@ pub fn skip(s: &[u8], at: usize, key: u64, n: usize) -> usize
 // The first of the n records from `from` on that has the key.
 pub fn search(s: &[u8], key: u64, n: usize, from: usize) -> Found
     requires { ⌜ 16 * (from + n) ≤ length (now s) ⌝ }
-    ensures { λ r. ⌜ place r ≡ firstRecord key n from (now (s .entry)) ⌝ }
+    ensures { λ r. ⌜ foundAt r ≡ firstRecord key n from (now (s .entry)) ⌝ }
 {
     let end = from + n;
     let mut i = from + skip(s, 16 * from, key, n);

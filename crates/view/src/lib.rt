@@ -4,55 +4,43 @@ ghost use mathlib.Core.Path.{_≡_};
 ghost use Prim.Native.Nat.{_≤_, _<_};
 ghost use lib.ListN.{length};
 ghost use Rattle.model.specs.Geometry.{allowed, partitions, flashNeed};
-ghost use Rattle.model.specs.Partition.{partition, isLive};
 ghost use Rattle.model.specs.View.{viewChecks, pageShown, viewed};
 ghost use Rattle.model.specs.Calls.{Call};
 ghost use Rattle.answers.specs.Told as told;
 ghost use Rattle.answers.specs.Performs.{Performs, Inside};
 ghost use Rattle.opening.specs.Opened.{IsTable};
-ghost use Rattle.partition.specs.Ready.{refusal, Whole};
+ghost use Rattle.partition.specs.Ready.{Whole};
 use answers::Refusal;
+use answers::Verdict;
 use answers::Viewed;
+use head::Head;
 use model::Geometry;
-use partition::Verdict;
-
-// Is batch n live?
-fn is_live(part: &[u8], g: Geometry, n: u32) -> bool
-    requires { ⌜ Whole g (now part) ⌝ }
-    ensures { λ r. ⌜ r ≡ isLive g (now (part .entry)) n ⌝ }
-{
-    let flushes = words::u32_at(part, 0);
-    let dead = flushes - partition::live_count(part, g);
-    if n <= dead {
-        return false;
-    }
-    n <= flushes
-}
 
 // 12, 17.
 pub fn decide(part: &[u8], g: Geometry, t: u32, q: u32, n: u32) -> Verdict
     requires { ⌜ Whole g (now part) ⌝ }
     requires { ⌜ t < partitions g ⌝ }
     requires { ⌜ q < g .pages ⌝ }
-    ensures { λ r. ⌜ refusal r ≡ viewChecks g t q n (now (part .entry)) ⌝ }
+    ensures { λ r. ⌜ told.verdict r ≡ viewChecks g t q n (now (part .entry)) ⌝ }
 {
-    if partition::is_list_overfull(part, g) {
-        return Verdict::Refused(12);
+    let head = Head::read(part);
+    if head.is_overfull(g) {
+        return Verdict::Refused(Refusal::unread(12));
     }
     if n == 0 {
-        if partition::is_page_overfull(part, g, q) {
-            return Verdict::Refused(12);
+        if partition::buffer::is_page_overfull(part, g, q) {
+            return Verdict::Refused(Refusal::unread(12));
         }
         return Verdict::Accepted;
     }
-    if !is_live(part, g, n) {
-        return Verdict::Refused(17);
+    if !head.is_live(g, n) {
+        return Verdict::Refused(Refusal::unread(17));
     }
     Verdict::Accepted
 }
 
 // A page of a live batch; 13 where it is not the one expected.
-fn place_in_flash(flash: &[u8], g: Geometry, t: u32, q: u32, n: u32) -> Viewed
+fn locate_in_flash(flash: &[u8], g: Geometry, t: u32, q: u32, n: u32) -> Viewed
     requires { ⌜ allowed g ≡ true ⌝ }
     requires { ⌜ flashNeed g ≤ length (now flash) ⌝ }
     requires { ⌜ t < partitions g ⌝ }
@@ -60,11 +48,9 @@ fn place_in_flash(flash: &[u8], g: Geometry, t: u32, q: u32, n: u32) -> Viewed
     requires { ⌜ 1 ≤ n ⌝ }
     ensures { λ r. ⌜ told.viewed r ≡ pageShown false g t q n (now (flash .entry)) ⌝ }
 {
-    let at = geometry::slot_page_at(g, t, partition::slot_of(g, n), q);
-    let size = g.page as usize;
-    let e = at + size;
-    if page::is_expected(&flash[at..e], g, t, n, q) {
-        return Viewed::Flash(at, size);
+    let at = geometry::slot_page_at(g, t, partition::batches::slot_of(g, n), q);
+    if page::is_expected_at(flash, at, g, t, n, q) {
+        return Viewed::Flash(at, g.page as usize);
     }
     Viewed::Refused(Refusal {
         number: 13,
@@ -73,7 +59,7 @@ fn place_in_flash(flash: &[u8], g: Geometry, t: u32, q: u32, n: u32) -> Viewed
 }
 
 // Where the page begins.
-pub fn place(flash: &[u8], g: Geometry, t: u32, q: u32, n: u32) -> Viewed
+pub fn locate(flash: &[u8], g: Geometry, t: u32, q: u32, n: u32) -> Viewed
     requires { ⌜ allowed g ≡ true ⌝ }
     requires { ⌜ flashNeed g ≤ length (now flash) ⌝ }
     requires { ⌜ t < partitions g ⌝ }
@@ -84,7 +70,7 @@ pub fn place(flash: &[u8], g: Geometry, t: u32, q: u32, n: u32) -> Viewed
         let at = geometry::partition_at(g, t) + geometry::buffer_at(g, q);
         return Viewed::Memory(at, g.page as usize);
     }
-    place_in_flash(flash, g, t, q, n)
+    locate_in_flash(flash, g, t, q, n)
 }
 
 // 4, then as the partition decides.
@@ -94,19 +80,13 @@ pub fn call(memory: &[u8], flash: &[u8], g: Geometry, t: u32, q: u32, n: u32) ->
     ensures { λ r. ⌜ Inside r (now (memory .entry)) (now (flash .entry)) ⌝ }
 {
     if geometry::partition_count(g) <= t {
-        return Viewed::Refused(Refusal {
-            number: 4,
-            reads: 0,
-        });
+        return Viewed::Refused(Refusal::unread(4));
     }
     if g.pages <= q {
-        return Viewed::Refused(Refusal {
-            number: 4,
-            reads: 0,
-        });
+        return Viewed::Refused(Refusal::unread(4));
     }
     match decide(partition::part_of(memory, g, t), g, t, q, n) {
-        Verdict::Refused(number) => Viewed::Refused(Refusal { number, reads: 0 }),
-        Verdict::Accepted => place(flash, g, t, q, n),
+        Verdict::Refused(refusal) => Viewed::Refused(refusal),
+        Verdict::Accepted => locate(flash, g, t, q, n),
     }
 }

@@ -7,7 +7,7 @@ use Rattle.model.specs.Page.{countOf}
 use Rattle.model.specs.Partition.{bufferOf}
 use Rattle.model.proofs.Searching.{first-at}
 use Rattle.model.proofs.Sizes.{sizes, page-of-lt}
-use Rattle.records.proofs.Placed.{placed}
+use Rattle.records.proofs.Telling.{told-at}
 use Rattle.get.proofs.search_both.Statement.{statement}
 use Rattle.get.proofs.search_both.Tie as tie
 
@@ -23,14 +23,14 @@ buffered-value-requires c κs =
     let f = fits (c .before .before .before .before) in
     let w = c .before .before .before .before .before .before .before .pre .0 in
     let z = sizes _ (w .fine) in
-    let u = first-at _ _ _ _ (placed (c .before .before .before .find-buffered .ensures) (c .before .i .given .1)) in
+    let u = first-at _ _ _ _ (told-at (c .before .before .before .find-buffered .ensures) (c .before .i .given .1)) in
     (w, (f .0, omega arith))
 
 returns : tie.Need-returns
-returns c = rw (← c .before .before .before .before .before .page-of .ensures, placed (c .before .before .before .before .find-buffered .ensures) (c .before .before .i .given .1), c .buffered-value .ensures)
+returns c = rw (← c .before .before .before .before .before .page-of .ensures, told-at (c .before .before .before .before .find-buffered .ensures) (c .before .before .i .given .1), c .buffered-value .ensures)
 
 returns-2 : tie.Need-returns-2
-returns-2 c = rw (← c .before .before .before .before .page-of .ensures, placed (c .before .before .before .find-buffered .ensures) (c .before .enum-told .given .1)) (c .read-through .ensures)
+returns-2 c = rw (← c .before .before .before .before .page-of .ensures, told-at (c .before .before .before .find-buffered .ensures) (c .before .enum-told .given .1)) (c .read-through .ensures)
 
 pub search-both-spec : {M : Type 1} → statement M
 search-both-spec = tie.close (tie.spec (λ c κs. search needs) find-buffered-requires (λ c. search needs) buffered-value-requires (λ c. search needs) (λ c κs. search needs) returns returns-2)

@@ -6,7 +6,7 @@ use borrow.Author.Needs.{needs}
 use borrow.Author.Tests.{eq-eqb, ne-eqb}
 use Rattle.model.specs.Put.{due}
 use Rattle.model.proofs.Sizes.{page-of-lt}
-use Rattle.records.proofs.Placed.{placed}
+use Rattle.records.proofs.Telling.{told-at}
 use Rattle.put.proofs.is_due.Statement.{statement}
 use Rattle.put.proofs.is_due.Tie as tie
 
@@ -31,7 +31,7 @@ returns-2 : tie.Need-returns-2
 unfolding due
 returns-2 c =
     let f = c .before .before in
-    let e = rw (f .before .before .before .before .page-of .ensures) at (placed (f .find-buffered .ensures) (c .enum-told .given .1)) in
+    let e = rw (f .before .before .before .before .page-of .ensures) at (told-at (f .find-buffered .ensures) (c .enum-told .given .1)) in
     simp e
 
 returns-3 : tie.Need-returns-3
@@ -39,7 +39,7 @@ unfolding due
 returns-3 c =
     let f = c .before .before in
     let b = f .before .before in
-    let e = rw (b .before .before .page-of .ensures) at (placed (f .find-buffered .ensures) (c .enum-told2 .given .1)) in
+    let e = rw (b .before .before .page-of .ensures) at (told-at (f .find-buffered .ensures) (c .enum-told2 .given .1)) in
     let n = rw (b .before .before .page-of .ensures) at (b .before .buffer-count .ensures) in
     let d = eq-eqb _ _ (sym n ∙ f .before .if1 .left ∙ b .page-capacity .ensures) in
     simp (e, d)

@@ -5,7 +5,7 @@ use Rattle.model.specs.DeleteList.{listedAt}
 use Rattle.model.specs.Partition.{listedOf, listOf}
 use Rattle.model.specs.Put.{unlisted}
 use Rattle.model.proofs.Searching.{first-at}
-use Rattle.records.proofs.Placed.{placed}
+use Rattle.records.proofs.Telling.{told-at}
 use Rattle.partition.proofs.Inside.{list-inside}
 use native.Mathlib.Omega.{arith}
 use borrow.Author.Needs.{needs}
@@ -14,7 +14,7 @@ use Rattle.put.proofs.unlist.Tie as tie
 
 -- the place that was found
 at : (c : tie.After-read) → let a = c .before .before .before .before .before .before .before .before .args in listedAt (listedOf (a .part .now)) (a .key) (listOf (a .g) (a .part .now)) ≡ some (c .before .before .before .i .given .0 .0)
-at c = placed (c .before .before .before .before .before .find-listed .ensures) (c .before .before .before .i .given .1)
+at c = told-at (c .before .before .before .before .before .find-listed .ensures) (c .before .before .before .i .given .1)
 
 listed : (c : tie.After-read) → c .read .result .listed ≡ listedOf (c .before .before .before .before .before .before .before .before .args .part .now)
 listed c = ap (λ h. h .listed) (c .read .ensures)
@@ -37,7 +37,7 @@ returns c = let h = c .before .before .before .before .before .before .before .b
 
 returns-2 : tie.Need-returns-2
 unfolding unlisted
-returns-2 c = let e = placed (c .before .before .find-listed .ensures) (c .enum-told .given .1) in simp e
+returns-2 c = let e = told-at (c .before .before .find-listed .ensures) (c .enum-told .given .1) in simp e
 
 pub unlist-spec : {M : Type 1} → statement M
 unlist-spec = tie.close (tie.spec (λ c κs. search needs) (λ c. search needs) read-requires (λ c. search needs) strike-requires unlisted-requires put-back-requires (λ c. search needs) (λ c. search needs) returns (λ c. search needs) returns-2)

@@ -3,7 +3,7 @@ use mathlib.Core.Path.{_≡_, sym, _∙_, ap}
 use mathlib.Core.Option.{Option}
 use Prim.Native.Nat.{ℕ}
 use Rattle.records.specs.declared.Found.{Found}
-use Rattle.records.specs.Found.{place}
+use Rattle.records.specs.Found.{foundAt}
 
-pub placed : {r f : Found} {o : Option ℕ} → place r ≡ o → r ≡ f → o ≡ place f
-placed e h = sym e ∙ ap place h
+pub told-at : {r f : Found} {o : Option ℕ} → foundAt r ≡ o → r ≡ f → o ≡ foundAt f
+told-at e h = sym e ∙ ap foundAt h
