@@ -29,23 +29,23 @@ AllFit (c ∷ cs) = Fits c × AllFit cs
 
 abbrev pub isRefused : Answer → Bool
 isRefused (done n) = false
-isRefused (found v r p) = false
-isRefused (absent r) = false
+isRefused (found v c p) = false
+isRefused (absent c) = false
 isRefused (shown s) = false
 isRefused (refused n r) = true
 
 -- what a get says of its key: a value or none, and nothing when it is refused
 abbrev pub said : Answer → Option (Option ℕ)
 said (done n) = none
-said (found v r p) = some (some v)
-said (absent r) = some none
+said (found v c p) = some (some v)
+said (absent c) = some none
 said (shown s) = none
 said (refused n r) = none
 
 abbrev pub readsOf : Answer → ℕ
 readsOf (done n) = 0
-readsOf (found v r p) = r
-readsOf (absent r) = r
+readsOf (found v c p) = c .reads
+readsOf (absent c) = c .reads
 readsOf (shown s) = 0
 readsOf (refused n r) = r
 

@@ -78,8 +78,8 @@ accepted (view t q m) n = looking
 
 abbrev pub heard : Call → Answer → Event
 heard c (done n) = accepted c n
-heard c (found v r p) = accepted c 0
-heard c (absent r) = accepted c 0
+heard c (found v t p) = accepted c 0
+heard c (absent t) = accepted c 0
 heard c (shown s) = accepted c 0
 heard c (refused n r) = turnedDown
 

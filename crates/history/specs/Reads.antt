@@ -6,11 +6,10 @@ use mathlib.Core.List.{List, [], _∷_, _++_}
 use mathlib.Core.Option.{Option, none, some, Option·map}
 use Rattle.model.specs.declared.Geometry.{Geometry}
 use Rattle.model.specs.Search.{isSome}
-use Rattle.model.specs.Keys.{partitionOf, pageOf, mixed}
+use Rattle.model.specs.Keys.{partitionOf, pageOf}
 use Rattle.model.specs.Page.{valueAt, searched, expected}
 use Rattle.model.specs.DeleteList.{listedAt}
-use Rattle.model.specs.Filter.{passes}
-use Rattle.model.specs.Partition.{listedOf, listOf, filterOf, bufferOf, slot, isLive, passing}
+use Rattle.model.specs.Partition.{headOf, listedOf, listOf, bufferOf, isLive, batchPasses, passing}
 use Rattle.model.specs.Answers.{Areas, Answer, done, found, absent, shown, refused, buffer, batch}
 use Rattle.model.specs.Get.{batchPage}
 use Rattle.model.specs.Calls.{geometryIn, keyPartition}
@@ -36,11 +35,11 @@ readBy a k = batchesRead (geometryIn a) k (keyPartition a k) (a .flash)
 -- live batches of the partition with the bytes p, each below the one before, all below `high`: none stands twice
 abbrev pub LiveFalling : Geometry → List ℕ → ℕ → List ℕ → Type 0
 LiveFalling g p high [] = Unit {0}
-LiveFalling g p high (n ∷ ns) = (n < high) × (isLive g p n ≡ true) × LiveFalling g p n ns
+LiveFalling g p high (n ∷ ns) = (n < high) × (isLive g (headOf p) n ≡ true) × LiveFalling g p n ns
 
 -- the filter of batch n passes the key
 abbrev pub isPassed : Areas → ℕ → ℕ → Bool
-isPassed a k n = passes (geometryIn a) (mixed k) (filterOf (geometryIn a) (slot (geometryIn a) n) (keyPartition a k))
+isPassed a k n = batchPasses (geometryIn a) k (keyPartition a k) n
 
 -- what the key's page of batch n holds of the key
 abbrev pub heldIn : Areas → ℕ → ℕ → Option ℕ
@@ -63,9 +62,9 @@ pub record FoundIn (a : Areas) (k v n : ℕ) (read : List ℕ) : Type 0 where
 
 -- how a get's answer follows from the batches that it read
 abbrev pub Follows : Areas → ℕ → Answer → List ℕ → Type 0
-Follows a k (found v r (batch n)) read = FoundIn a k v n read
-Follows a k (found v r buffer) read = read ≡ []
-Follows a k (absent r) read = AllLack a k read
+Follows a k (found v c (batch n)) read = FoundIn a k v n read
+Follows a k (found v c buffer) read = read ≡ []
+Follows a k (absent c) read = AllLack a k read
 Follows a k (done n) read = Unit {0}
 Follows a k (shown s) read = Unit {0}
 Follows a k (refused n r) read = Unit {0}

@@ -85,8 +85,8 @@ effect a (view t q n) = a
 abbrev pub unlessRefused : Answer → Areas → Areas → Areas
 unlessRefused (refused n r) before later = before
 unlessRefused (done n) before later = later
-unlessRefused (found v r p) before later = later
-unlessRefused (absent r) before later = later
+unlessRefused (found v c p) before later = later
+unlessRefused (absent c) before later = later
 unlessRefused (shown s) before later = later
 
 -- what a call leaves
@@ -98,8 +98,8 @@ abbrev pub partShown : Answer → Stretch
 partShown (shown s) = s
 partShown (refused n r) = inMemory 0 0
 partShown (done n) = inMemory 0 0
-partShown (found v r p) = inMemory 0 0
-partShown (absent r) = inMemory 0 0
+partShown (found v c p) = inMemory 0 0
+partShown (absent c) = inMemory 0 0
 
 unfoldable pub bytesShown : Areas → ℕ → ℕ → ℕ → List ℕ
 bytesShown a t q n = bytesIn a (partShown (reply a (view t q n)))
