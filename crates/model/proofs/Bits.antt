@@ -7,15 +7,17 @@ use native.Mathlib.Nat.{sub-zero, pow-suc, mul-le-mul, mod-lt, div-self, div-eq-
 use native.Mathlib.Decide.{decLt, ℕ-discrete}
 use native.Mathlib.Numerals.{add-one}
 use native.Mathlib.Omega.{arith}
+use lib.Dec.{eqb}
 use lib.ListN.{length, getD, set, length-set, length-replicate}
+use borrow.Author.Tests.{eq-eqb, ne-eqb}
 use lib.Seq.{take-all, getD-set-same, getD-set-other}
 use lib.Pow.{pow-pos, pow-lt, pow-add, shl-shr, shr-lt}
 use lib.Bits.{bitOr, or-shr, or-mod, or-zero-r, or-lt}
 use Rattle.model.specs.Bytes.{word, zeros, mid, within}
 use Rattle.model.specs.Search.{anyFrom}
-use Rattle.model.specs.Geometry.{allowed, filterSize, bufferAt, stride}
+use Rattle.model.specs.Geometry.{allowed, filterSize, filterAt, bufferAt, stride}
 use Rattle.model.specs.Page.{countOf}
-use Rattle.model.specs.Partition.{bufferOf}
+use Rattle.model.specs.Partition.{bufferOf, slotBits}
 use Rattle.model.specs.Keys.{mixed, firstBit, bitStep, bitOf}
 use Rattle.model.specs.Filter.{bitAt, withBit, passes, withBits, withEntries, withPages, filterFor}
 use Rattle.model.specs.declared.Geometry.{Geometry}
@@ -79,8 +81,17 @@ module _ (g : Geometry) (ok : allowed g ≡ true) (x i : ℕ) {b : ℕ} (e : b �
   unfolding bitOf
   bit-byte = let z = sizes g ok in omega (arith, mod-lt (firstBit x + i * bitStep x) {m = g .bits} (omega arith))
 
-  pub bit-read : (at : ℕ) (s : List ℕ) → bitAt (mid at (filterSize g) s) (bitOf g x i) ≡ getD s (at + b / 8) 0 / 2 ^ (b % 8) % 2
-  bit-read at s = rw (← e) (bit-mid at (filterSize g) s b bit-byte)
+  -- slot j's bit, by the byte that holds it
+  module _ (j : ℕ) (s : List ℕ) where
+    slot-bit : slotBits g s j (bitOf g x i) ≡ eqb (getD s (filterAt g j + b / 8) 0 / 2 ^ (b % 8) % 2) 1
+    unfolding slotBits
+    slot-bit = rw (← e, bit-mid (filterAt g j) (filterSize g) s b bit-byte)
+
+    pub bit-clear : getD s (filterAt g j + b / 8) 0 / 2 ^ (b % 8) % 2 ≡ 0 → slotBits g s j (bitOf g x i) ≡ false
+    bit-clear z = slot-bit ∙ ne-eqb (getD s (filterAt g j + b / 8) 0 / 2 ^ (b % 8) % 2) 1 (omega arith)
+
+    pub bit-there : (getD s (filterAt g j + b / 8) 0 / 2 ^ (b % 8) % 2 ≡ 0 → ⊥) → slotBits g s j (bitOf g x i) ≡ true
+    bit-there n = slot-bit ∙ eq-eqb (getD s (filterAt g j + b / 8) 0 / 2 ^ (b % 8) % 2) 1 (omega arith)
 
   -- what a turn does to the invariant `s ≡ within at (filterSize g) (withBits g x i) s₀`
   pub bit-added : (at : ℕ) (s s₀ : List ℕ) → at + filterSize g ≤ length s₀ → s ≡ within at (filterSize g) (withBits g x i) s₀ → set s (at + b / 8) (bitOr (getD s (at + b / 8) 0) (1 * 2 ^ (b % 8) % 256)) ≡ within at (filterSize g) (withBits g x (i + 1)) s₀

@@ -1,9 +1,9 @@
--- Which keys the bits of a filter pass: it is had from the bits below M, and a batch that holds a key passes it.
+-- Which keys the bits of a filter pass: it is had from the bits below M, and a batch that holds a key passes it; and the walk through the batches that pass.
 use mathlib.Core.Path.{_≡_, refl, sym, _∙_, ap}
 use mathlib.Core.Bool.{Bool, true, false, not, _&&_, _||_, or-true}
 use mathlib.Core.List.{List, [], _∷_}
 use mathlib.Core.Option.{Option, none, some}
-use Prim.Native.Nat.{ℕ, zero, suc, _+_, _<_}
+use Prim.Native.Nat.{ℕ, zero, suc, _+_, _-_, _≤_, _<_}
 use native.Mathlib.Nat.{add-zero, zero-add, mod-lt}
 use native.Mathlib.Decide.{ℕ-discrete}
 use native.Mathlib.Omega.{arith}
@@ -13,6 +13,7 @@ use Rattle.model.specs.declared.Geometry.{Geometry}
 use Rattle.model.specs.Search.{firstFrom, anyFrom}
 use Rattle.model.specs.Keys.{mixed, bitOf}
 use Rattle.model.specs.Filter.{passes}
+use Rattle.model.specs.Partition.{headOf, flushesOf, slot, live, slotBits, batchPasses, passingFrom, passing}
 use Rattle.model.proofs.Tests.{either}
 use Rattle.model.proofs.Tables.{Entry, find, any, all, anyBelow, bitsBelow, bitsOf, hasBit, passesIn}
 
@@ -98,3 +99,29 @@ module _ (g : Geometry) (k : ℕ) (pages : ℕ → List Entry) (q : ℕ) (inside
       go : (o : Option ℕ) → find k (pages q) ≡ o → o ≡ none
       go none e = refl
       go (some v) e = let t = passes-found v e in cc
+
+-- ---- one batch of the walk through the live batches, youngest first
+module _ (g : Geometry) (k : ℕ) (p : List ℕ) where
+  pub pass-take : (count n : ℕ) → 0 < count → batchPasses g k p n ≡ true → passingFrom g k p count n ≡ n ∷ passingFrom g k p (count - 1) (n - 1)
+  unfolding passingFrom
+  pass-take zero n l h = absurd (omega arith)
+  pass-take (suc count) n l h = let e : suc count - 1 ≡ count = omega arith in rw e (simp h)
+
+  pub pass-skip : (count n : ℕ) → 0 < count → batchPasses g k p n ≡ false → passingFrom g k p count n ≡ passingFrom g k p (count - 1) (n - 1)
+  unfolding passingFrom
+  pass-skip zero n l h = absurd (omega arith)
+  pass-skip (suc count) n l h = let e : suc count - 1 ≡ count = omega arith in rw e (simp h)
+
+  pub pass-end : (count n : ℕ) → count ≤ 0 → passingFrom g k p count n ≡ []
+  unfolding passingFrom
+  pass-end zero n l = refl
+  pass-end (suc count) n l = absurd (omega arith)
+
+  -- the batch is asked by the filter of its slot
+  pub batch-asked : (n : ℕ) → batchPasses g k p n ≡ passes g (mixed k) (slotBits g p (slot g n))
+  unfolding batchPasses
+  batch-asked n = refl
+
+  pub passing-from : passing g k p ≡ passingFrom g k p (live g (headOf p)) (flushesOf p)
+  unfolding passing
+  passing-from = refl

@@ -36,7 +36,9 @@ pub record Sizes (g : Geometry) : Type 0 where
   pub bits-max : g .bits ≤ 65536
   pub bits-is : g .bits ≡ 8 * filterSize g
   pub filter-max : filterSize g ≤ 8192
+  pub hashes-min : 1 ≤ g .hashes
   pub hashes-max : g .hashes ≤ 8
+  pub list-min : 1 ≤ g .list
   pub list-max : g .list ≤ 1024
 
 range : (low high n : ℕ) → between low high n ≡ true → (low ≤ n) × (n ≤ high)
@@ -93,7 +95,9 @@ sizes g ok =
       bits-max = omega arith;
       bits-is = omega arith;
       filter-max = omega arith;
+      hashes-min = hashes .0;
       hashes-max = hashes .1;
+      list-min = list .0;
       list-max = list .1;
     }
 

@@ -1,4 +1,3 @@
-pub mod Checks
 pub mod Inside
 pub mod Lending
-pub mod Passing
+pub mod Slots
