@@ -1,2 +1,3 @@
 pub mod Flushing
 pub mod Moving
+pub mod Preparing

@@ -83,6 +83,11 @@ module _ (g : Geometry) (p : List ℕ) where
   unfolding headAfter
   words-after w more = words-unlisted _ (flushedHead (headOf p)) (words-flushed (headOf p) w more)
 
+  -- it is made of the head as it was, in the order of its changes
+  pub head-after : {h : Head} {n stay : ℕ} → h ≡ headOf p → stay ≡ unexpired (g .kept) (flushesOf p) (listedOf p) (listOf g p) → n ≡ listedOf p - stay → unlistedHead n (flushedHead h) ≡ headAfter g p
+  unfolding headAfter
+  head-after e stays less = rw (less, stays, e)
+
   pub flushes-after : headAfter g p .flushes ≡ flushesOf p + 1
   unfolding headAfter
   flushes-after = refl

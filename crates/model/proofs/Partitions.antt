@@ -3,6 +3,7 @@ use Prim.Native.Nat.{ℕ, zero, suc, _+_, _*_, _≤_, _<_}
 use mathlib.Core.Bool.{Bool, true, cond}
 use mathlib.Core.Path.{_≡_, refl, sym, _∙_, ap}
 use mathlib.Core.List.{List}
+use native.Mathlib.Numerals.{add-one}
 use native.Mathlib.Omega.{arith}
 use native.Mathlib.Decide.{ℕ-discrete}
 use lib.Dec.{eqb, ltb}
@@ -18,7 +19,7 @@ use Rattle.model.specs.Format.{emptiedPages}
 use Rattle.model.proofs.Parts.{Apart, mid-ext, length-within, mid-within, mid-within-out}
 use Rattle.model.proofs.Words.{getD-write-out, word-within-out}
 use Rattle.model.proofs.Sizes.{sizes, filter-from, filters-apart, filter-before-buffer, buffer-behind-list, buffer-fits, buffers-apart}
-use Rattle.model.proofs.Lengths.{length-withHead, length-emptied}
+use Rattle.model.proofs.Lengths.{length-withHead, length-emptied, length-emptiedPages}
 use Rattle.model.proofs.Heads.{HeadWords, head-back}
 use Rattle.model.proofs.Tests.{either}
 
@@ -159,3 +160,21 @@ module _ (g : Geometry) (ok : allowed g ≡ true) where
 
     pub laid-emptied : Laid g (emptiedPages g t (g .pages) p) h l bits (λ q. emptied q t (bs q))
     laid-emptied = laid-same (emptied-below (g .pages) (omega arith)) (λ q m. rw (lt-ltb q (g .pages) m))
+
+-- ---- one page more, for a loop that empties them
+module _ (g : Geometry) (t : ℕ) (p : List ℕ) where
+  pub emptied-none : emptiedPages g t 0 p ≡ p
+  unfolding emptiedPages
+  emptied-none = refl
+
+  pub emptied-next : (q : ℕ) → emptiedPages g t (q + 1) p ≡ within (bufferAt g q) (g .page) (emptied q t) (emptiedPages g t q p)
+  unfolding emptiedPages
+  emptied-next q = rw add-one
+
+  -- pages that are not emptied yet
+  pub not-emptied : length p ≡ stride g → (n q : ℕ) → n ≤ q → q < g .pages → bufferOf g (emptiedPages g t n p) q ≡ bufferOf g p q
+  unfolding emptiedPages
+  not-emptied long zero q l m = refl
+  not-emptied long (suc n) q l m =
+      mid-within-out _ _ _ (emptiedPages g t n p) _ _ (omega (arith, length-emptiedPages g t n p, buffer-fits g q m, long)) (buffers-apart g n q (λ e. omega arith))
+      ∙ not-emptied long n q (omega arith) m

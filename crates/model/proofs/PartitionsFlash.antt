@@ -3,12 +3,13 @@ use Prim.Native.Nat.{ℕ, zero, suc, _+_, _-_, _≤_, _<_, _%_, _/_}
 use mathlib.Core.Bool.{true}
 use mathlib.Core.Path.{_≡_, refl, sym, _∙_}
 use mathlib.Core.List.{List}
+use native.Mathlib.Numerals.{add-one}
 use native.Mathlib.Omega.{arith}
 use native.Mathlib.Nat.{div-add-mod', mul-le-mul-right}
 use native.Mathlib.Decide.{ℕ-discrete, decLe}
 use lib.ListN.{length}
 use Rattle.model.specs.declared.Geometry.{Geometry}
-use Rattle.model.specs.Bytes.{mid}
+use Rattle.model.specs.Bytes.{mid, within}
 use Rattle.model.specs.Geometry.{allowed, partitions, flashNeed, slotPageAt, stride, bufferAt}
 use Rattle.model.specs.Page.{numbered}
 use Rattle.model.specs.Partition.{flushesOf, bufferOf, slot}
@@ -57,3 +58,20 @@ module _ (g : Geometry) (ok : allowed g ≡ true) (t : ℕ) (below : t < partiti
             (slot-pages-apart g t j n t j q lj lj m (omega arith) (λ a b c. e (sym c)))
             ∙ batch-page long n q (omega arith) (omega arith)
       ]
+
+-- ---- one page more, for a loop that writes them
+module _ (g : Geometry) (t : ℕ) (p f : List ℕ) where
+  pub batch-none : withBatch g t p 0 f ≡ f
+  unfolding withBatch
+  batch-none = refl
+
+  pub batch-next : (q : ℕ) → withBatch g t p (q + 1) f
+      ≡ within (slotPageAt g t (slot g (flushesOf p + 1)) q) (g .page) (λ _. numbered (flushesOf p + 1) (bufferOf g p q)) (withBatch g t p q f)
+  unfolding withBatch
+  batch-next q = rw add-one
+
+  -- a batch is written from the number of flushes and the buffer alone
+  pub batch-same : (p′ : List ℕ) → flushesOf p ≡ flushesOf p′ → ((q : ℕ) → q < g .pages → bufferOf g p q ≡ bufferOf g p′ q) → (n : ℕ) → n ≤ g .pages → withBatch g t p n f ≡ withBatch g t p′ n f
+  unfolding withBatch
+  batch-same p′ e b zero l = refl
+  batch-same p′ e b (suc n) l = rw (e, b n (omega arith), batch-same p′ e b n (omega arith))

@@ -5,15 +5,17 @@ use mathlib.Core.List.{List}
 use mathlib.Core.Path.{_≡_}
 use native.Mathlib.Nat.{add-sub-cancel-left}
 use native.Mathlib.Omega.{arith}
-use lib.ListN.{length}
+use lib.ListN.{length, getD}
 use borrow.Rule.Slice.PartMut.{putMid}
 use Rattle.model.specs.declared.Geometry.{Geometry}
-use Rattle.model.specs.Bytes.{mid, within}
+use Rattle.model.specs.Bytes.{word, mid, within}
 use Rattle.model.specs.Geometry.{allowed, partitions, stride, partitionAt, memoryNeed}
 use Rattle.model.specs.Keys.{partitionOf}
-use Rattle.model.specs.Partition.{partition}
+use Rattle.model.specs.Partition.{headOf, partition}
 use Rattle.model.proofs.Parts.{lent, length-mid}
-use Rattle.model.proofs.Sizes.{partition-fits, partition-of-lt}
+use Rattle.model.proofs.Words.{word-mid, word-lt}
+use Rattle.model.proofs.Sizes.{buffer-behind-list, buffer-end, partition-fits, partition-of-lt}
+use Rattle.model.proofs.Heads.{HeadWords}
 use Rattle.partition.specs.Ready.{Whole}
 
 -- the part is partition t, and a change of it that keeps its length is one of memory there
@@ -44,3 +46,10 @@ module _ (g : Geometry) (m : List ℕ) (fine : allowed g ≡ true) (long : memor
   -- the same for the partition of a key
   pub lends-key : (k : ℕ) → k < 2 ^ 64 → (t a n : ℕ) → t ≡ partitionOf g k → a ≡ partitionAt g t → n ≡ stride g → Lent g (partitionOf g k) m a n
   lends-key k l t a n et ea en = lends (partitionOf g k) (partition-of-lt g fine k l) a n (rw et at ea) en
+
+-- a partition's head is read from bytes of memory
+pub partition-words : (g : Geometry) (t : ℕ) (m : List ℕ) → ((i : ℕ) → getD m i 0 < 256) → HeadWords (headOf (partition g t m))
+partition-words g t m bytes = record { flushes = number 4 0 (omega arith); listed = number 4 4 (omega arith); rest = number 8 8 (omega arith) }
+  where
+    number : (n at : ℕ) → at + n ≤ 16 → word n (partition g t m) at < 256 ^ n
+    number n at l = rw (word-mid n m (partitionAt g t) (stride g) at (omega (arith, buffer-behind-list g 0, buffer-end g))) (word-lt n m (partitionAt g t + at) bytes)

@@ -1,119 +1,114 @@
 -- The steps are those of `flushed`, in its order. The new filter lies behind the list, so the entries that expire are those of the partition as it was; filter and list lie in front of the buffer, so the batch is that of the partition as it was.
+use Prim.Native.Nat.{_≤_, _<_}
+use mathlib.Core.Path.{_≡_, _∙_, ap, ap₂}
 use native.Mathlib.Omega.{arith}
 use borrow.Author.Needs.{needs}
+use Rattle.model.specs.DeleteList.{unexpired}
+use Rattle.model.specs.Partition.{Head, unlistedHead, withHead, flushesOf, listedOf, listOf}
+use Rattle.model.specs.Refusals.{lastFlush}
+use Rattle.model.specs.Format.{emptiedPages}
+use Rattle.model.specs.Flush.{filtered, delisted, headAfter, flushed}
+use Rattle.model.proofs.Sizes.{sizes, slot-lt}
+use Rattle.model.proofs.Heads.{head-fits, head-after}
+use Rattle.model.proofs.Checks.{pages-fit}
+use Rattle.model.proofs.PartitionsFlash.{batch-same}
+use Rattle.head.specs.Heads.{asHead}
+use Rattle.head.proofs.Fields.{flushes-is, listed-is}
+use Rattle.partition.proofs.Inside.{list-inside}
+use Rattle.flush.proofs.Preparing.{stay-at-most, filter-made, list-shortened, stay-as-were, same-head, same-buffer}
 use Rattle.flush.proofs.apply.Statement.{statement}
 use Rattle.flush.proofs.apply.Tie as tie
-use Prim.Native.Nat.{ℕ, _+_, _≤_, _<_}
-use mathlib.Core.List.{List}
-use mathlib.Core.Path.{_≡_, _∙_, ap}
-use Rattle.model.specs.declared.Geometry.{Geometry}
-use Rattle.model.specs.DeleteList.{unexpired}
-use Rattle.model.specs.Partition.{Head, flushesOf, listedOf, listOf, slot}
-use Rattle.model.specs.Refusals.{lastFlush}
-use Rattle.model.specs.Flush.{filtered, delisted, flushedHead, flushed}
-use Rattle.model.proofs.ListEntries.{unexpired-le}
-use Rattle.model.proofs.Parts.{mid-within-out}
-use Rattle.model.proofs.Sizes.{sizes, slot-lt, filter-from}
-use Rattle.partition.specs.Ready.{Whole}
-use Rattle.partition.proofs.Inside.{list-inside}
-use Rattle.flush.proofs.Moving.{prepared, written-same}
 
--- the new filter leaves the list as it was
-list-kept : (g : Geometry) (p : List ℕ) → Whole g p → listOf g (filtered g p) ≡ listOf g p
-unfolding filtered
-list-kept g p w = mid-within-out _ _ _ p _ _ (list-inside g p w) (omega (arith, filter-from g (slot g (flushesOf p + 1))))
+-- ---- the steps that the facts go back to
+abbrev start : tie.After-read → tie.Start
+start c = c .before .before .before .before
 
-same-head : {f l r f′ l′ r′ : ℕ} → f ≡ f′ → l ≡ l′ → r ≡ r′ → _≡_ {A = Head} (record { flushes = f; listed = l; rest = r }) (record { flushes = f′; listed = l′; rest = r′ })
-same-head a b c = rw (a, b, c)
+abbrev read-at : tie.After-make → tie.After-read
+read-at c = c .before .before .before
 
-at-most : {s : ℕ} (kept flushes n : ℕ) (l : List ℕ) → s ≡ unexpired kept flushes n l → s ≤ n
-at-most kept flushes n l e = rw e (unexpired-le kept flushes n l)
+abbrev made-at : tie.After-expire → tie.After-make
+made-at c = c .before .before .before .before
+
+abbrev expired-at : tie.After-move-batch → tie.After-expire
+expired-at c = c .before .before .before .before .before
+
+abbrev moved-at : tie.After-flushed → tie.After-move-batch
+moved-at c = c .before .before .before .before .before .before
 
 -- ---- what the head holds
-flushes-read : (c : tie.After-read) → c .read .result .flushes ≡ flushesOf (c .before .before .before .before .args .part .now)
-flushes-read c = ap (λ (h : Head). h .flushes) (c .read .ensures)
-
-listed-read : (c : tie.After-read) → c .read .result .listed ≡ listedOf (c .before .before .before .before .args .part .now)
-listed-read c = ap (λ (h : Head). h .listed) (c .read .ensures)
-
-small : (c : tie.After-read) → let g = c .before .before .before .before .args .g in (c .read .result .flushes < lastFlush) × (c .read .result .listed ≤ g .list) × (g .list ≤ 1024)
+small : (c : tie.After-read) → let g = start c .args .g in (c .read .result .flushes < lastFlush) × (c .read .result .listed ≤ g .list) × (g .list ≤ 1024)
 small c =
-    let s = c .before .before .before .before in
-    omega (arith, flushes-read c, listed-read c, s .pre .1 .0 .numberLeft, s .pre .1 .0 .listFits, sizes _ (s .pre .0 .fine) .list-max)
-
-read-requires : tie.Need-read-requires
-read-requires c κs = omega (arith, list-inside _ _ (c .before .before .before .pre .0))
-
-add-slot-of : tie.Need-add-slot-of
-add-slot-of c = omega (arith, small (c .before))
+    let s = start c in
+    omega (arith, flushes-is (c .read .ensures), listed-is (c .read .ensures), s .pre .1 .0 .number, head-fits _ _ (s .pre .1 .0 .head) .list, sizes _ (s .pre .0 .fine) .list-max)
 
 make-requires : tie.Need-make-requires
 make-requires c κs =
-    let s = c .before .before .before .before .before .before in
-    (s .pre .0 .fine, (rw (c .slot-of .ensures) (slot-lt _ (s .pre .0 .fine) _), (s .pre .0 .long, s .pre .1 .0 .pagesFit)))
+    let s = start (c .before .before) in
+    (s .pre .0 .fine, (rw (c .slot-of .ensures) (slot-lt _ (s .pre .0 .fine) _), (s .pre .0 .long, pages-fit _ _ (s .pre .1 .0 .pages))))
 
 -- ---- the partition with its new filter, and the list without what expires
-made : (c : tie.After-make) → let a = c .before .before .before .before .before .before .before .args in c .make .last .0 ≡ filtered (a .g) (a .part .now)
-unfolding filtered
-made c = c .make .ensures ∙ rw (c .before .slot-of .ensures, flushes-read (c .before .before .before))
+made : (c : tie.After-make) → let a = start (read-at c) .args in c .make .last .0 ≡ filtered (a .g) (a .part .now)
+made c = c .make .ensures ∙ filter-made _ _ (c .before .slot-of .ensures) (flushes-is (read-at c .read .ensures))
 
 expire-requires : tie.Need-expire-requires
 expire-requires c κs =
-    let s = c .before .before .before .before .before .before .before .before .before .before in
-    (record { fine = s .pre .0 .fine; long = omega (arith, s .pre .0 .long) }, omega (arith, small (c .before .before .before .before .before .before)))
+    let s = start (read-at (c .before .before .before)) in
+    (record { fine = s .pre .0 .fine; long = omega (arith, s .pre .0 .long) }, omega (arith, small (read-at (c .before .before .before))))
 
-stay : (c : tie.After-expire) → let a = c .before .before .before .before .before .before .before .before .before .before .before .args in c .expire .result ≡ unexpired (a .g .kept) (flushesOf (a .part .now)) (listedOf (a .part .now)) (listOf (a .g) (a .part .now))
+stay : (c : tie.After-expire) → let a = start (read-at (made-at c)) .args in c .expire .result ≡ unexpired (a .g .kept) (flushesOf (a .part .now)) (listedOf (a .part .now)) (listOf (a .g) (a .part .now))
 stay c =
-    let s = c .before .before .before .before .before .before .before .before .before .before .before in
-    c .expire .ensures .1 ∙ rw (made (c .before .before .before .before), flushes-read (c .before .before .before .before .before .before .before), listed-read (c .before .before .before .before .before .before .before), list-kept (s .args .g) (s .args .part .now) (s .pre .0))
+    let r = read-at (made-at c) in
+    c .expire .ensures .1 ∙ stay-as-were _ _ (made (made-at c)) (flushes-is (r .read .ensures)) (listed-is (r .read .ensures)) (start r .pre .0)
 
-stay-le : (c : tie.After-expire) → c .expire .result ≤ c .before .before .before .before .before .before .before .read .result .listed
-stay-le c = at-most _ _ _ _ (c .expire .ensures .1)
+stay-le : (c : tie.After-expire) → c .expire .result ≤ read-at (made-at c) .read .result .listed
+stay-le c = stay-at-most _ _ _ _ (c .expire .ensures .1)
 
-shorter : (c : tie.After-expire) → let a = c .before .before .before .before .before .before .before .before .before .before .before .args in c .expire .last .0 ≡ delisted (a .g) (flushesOf (a .part .now)) (listedOf (a .part .now)) (filtered (a .g) (a .part .now))
-shorter c = c .expire .ensures .0 ∙ rw (made (c .before .before .before .before), flushes-read (c .before .before .before .before .before .before .before), listed-read (c .before .before .before .before .before .before .before))
+shorter : (c : tie.After-expire) → let a = start (read-at (made-at c)) .args in c .expire .last .0 ≡ delisted (a .g) (flushesOf (a .part .now)) (listedOf (a .part .now)) (filtered (a .g) (a .part .now))
+shorter c =
+    let r = read-at (made-at c) in
+    c .expire .ensures .0 ∙ list-shortened _ _ (made (made-at c)) (flushes-is (r .read .ensures)) (listed-is (r .read .ensures))
+
+-- the head is as it was
+number-kept : (c : tie.After-expire) → flushesOf (c .expire .last .0) ≡ flushesOf (start (read-at (made-at c)) .args .part .now)
+number-kept c = ap (λ (h : Head). h .flushes) (same-head _ _ (start (read-at (made-at c)) .pre .0) (shorter c))
 
 -- ---- the batch
 move-batch-requires : tie.Need-move-batch-requires
 move-batch-requires c κs =
-    let s = c .before .before .before .before .before .before .before .before .before .before .before .before .before .before .before in
     let x = c .before .before .before .before in
-    let k = ap flushesOf (shorter x) ∙ prepared (s .args .g) (s .pre .0 .fine) (s .args .part .now) (s .pre .0 .long) .0 in
-    (record { fine = s .pre .0 .fine; long = omega (arith, s .pre .0 .long) }, (omega (arith, s .pre .1 .0 .below), (omega (arith, s .pre .1 .0 .numberLeft, k), omega (arith, s .pre .1 .1))))
+    let s = start (read-at (made-at x)) in
+    (record { fine = s .pre .0 .fine; long = omega (arith, s .pre .0 .long) }, (omega (arith, s .pre .1 .0 .below), (omega (arith, s .pre .1 .0 .number, number-kept x), omega (arith, s .pre .1 .1))))
 
 -- ---- the new head
 flushed-requires : tie.Need-flushed-requires
-flushed-requires c κs = omega (arith, small (c .before .before .before .before .before .before .before .before .before .before .before .before .before .before .before .before .before))
+flushed-requires c κs = omega (arith, small (read-at (made-at (expired-at (c .before .before .before .before .before)))))
 
 cast-unlisted : tie.Need-cast-unlisted
-cast-unlisted c = omega (arith, stay-le (c .before .before .before .before .before .before .before .before .before .before .before), small (c .before .before .before .before .before .before .before .before .before .before .before .before .before .before .before .before .before .before))
+cast-unlisted c = let x = expired-at (moved-at c) in omega (arith, stay-le x, small (read-at (made-at x)))
 
 sub-unlisted : tie.Need-sub-unlisted
-sub-unlisted c = omega (arith, stay-le (c .before .before .before .before .before .before .before .before .before .before .before))
-
-unlisted-requires : tie.Need-unlisted-requires
-unlisted-requires c κs = omega (arith, ap (λ (h : Head). h .listed) (c .flushed .ensures))
+sub-unlisted c = omega (arith, stay-le (expired-at (moved-at c)))
 
 put-back-requires : tie.Need-put-back-requires
-put-back-requires c κs = omega (arith, list-inside _ _ (c .before .before .before .before .before .before .before .before .before .before .before .before .before .before .before .before .before .before .before .before .before .before .before .pre .0))
+put-back-requires c κs = omega (arith, list-inside _ _ (start (read-at (made-at (expired-at (moved-at (c .before))))) .pre .0))
+
+head-made : (c : tie.After-unlisted) → let a = start (read-at (made-at (expired-at (moved-at (c .before))))) .args in asHead (c .unlisted .result) ≡ headAfter (a .g) (a .part .now)
+head-made c =
+    let x = expired-at (moved-at (c .before)) in
+    let r = read-at (made-at x) in
+    c .unlisted .ensures ∙ ap (unlistedHead _) (c .before .flushed .ensures) ∙ head-after _ _ (r .read .ensures) (stay x) (omega (arith, listed-is (r .read .ensures)))
 
 returns : tie.Need-returns
-unfolding flushed flushedHead
+unfolding flushed
 returns c =
-    let u = c .before .before .before in
-    let f = c .before .before .before .before in
-    let x = c .before .before .before .before .before .before .before .before .before .before .before .before .before .before .before in
-    let r = c .before .before .before .before .before .before .before .before .before .before .before .before .before .before .before .before .before .before .before .before .before .before in
-    let s = c .before .before .before .before .before .before .before .before .before .before .before .before .before .before .before .before .before .before .before .before .before .before .before .before .before .before in
+    let m = moved-at (c .before .before .before .before) in
+    let x = expired-at m in
+    let s = start (read-at (made-at x)) in
     let a = s .args in
-    let p = a .part .now in
-    let flushes : u .unlisted .result .flushes ≡ flushesOf p + 1 = omega (arith, ap (λ (h : Head). h .flushes) (u .unlisted .ensures), ap (λ (h : Head). h .flushes) (f .flushed .ensures), flushes-read r) in
-    let listed : u .unlisted .result .listed ≡ unexpired (a .g .kept) (flushesOf p) (listedOf p) (listOf (a .g) p) = omega (arith, ap (λ (h : Head). h .listed) (u .unlisted .ensures), ap (λ (h : Head). h .listed) (f .flushed .ensures), stay x, stay-le x) in
-    let rest = ap (λ (h : Head). h .rest) (u .unlisted .ensures) ∙ ap (λ (h : Head). h .rest) (f .flushed .ensures) ∙ ap (λ (h : Head). h .rest) (r .read .ensures) in
-    let same = prepared (a .g) (s .pre .0 .fine) p (s .pre .0 .long) in (
-      c .before .before .put-back .ensures ∙ rw (same-head flushes listed rest, c .before .before .before .before .before .before .before .before .before .before .move-batch .ensures .0, shorter x),
-      c .before .before .before .before .before .before .before .before .before .before .move-batch .ensures .1 ∙ rw (shorter x) (written-same (a .g) (a .t) _ p (same .0) (same .1) (a .g .pages) (omega arith) (a .flash .now)),
+    let b = m .move-batch .ensures in (
+      c .before .before .put-back .ensures ∙ ap₂ withHead (head-made (c .before .before .before)) (b .0 ∙ ap (emptiedPages (a .g) (a .t) (a .g .pages)) (shorter x)),
+      b .1 ∙ batch-same _ _ _ (a .flash .now) _ (number-kept x) (same-buffer _ _ (s .pre .0) (shorter x)) (a .g .pages) (omega arith),
     )
 
 pub apply-spec : {M : Type 1} → statement M
-apply-spec = tie.close (tie.spec read-requires add-slot-of (λ c κs. search needs) make-requires expire-requires move-batch-requires flushed-requires cast-unlisted sub-unlisted unlisted-requires put-back-requires (λ c. search needs) (λ c. search needs) returns)
+apply-spec = tie.close (tie.spec (λ c κs. omega (arith, list-inside _ _ (c .before .before .before .pre .0))) (λ c. omega (arith, small (c .before))) (λ c κs. search needs) make-requires expire-requires move-batch-requires flushed-requires cast-unlisted sub-unlisted (λ c κs. omega (arith, listed-is (c .flushed .ensures))) put-back-requires (λ c. search needs) (λ c. search needs) returns)

@@ -1,79 +1,53 @@
 -- Each test of the code is the one of the definition, in its order; that of the partition's number stops nothing.
-use Prim.Native.Nat.{ℕ, _<_}
-use mathlib.Core.Bool.{true, false}
-use mathlib.Core.List.{List}
+use mathlib.Core.Bool.{Bool, true, false}
 use mathlib.Core.Option.{none, some}
-use mathlib.Core.Path.{_≡_, sym, _∙_}
+use mathlib.Core.Path.{_≡_, sym, _∙_, ap}
 use native.Mathlib.Omega.{arith}
+use lib.Dec.{eqb}
 use borrow.Author.Needs.{needs}
-use borrow.Author.Tests.{not-true, not-false, lt-ltb, eq-eqb, ne-eqb}
-use Rattle.model.specs.declared.Geometry.{Geometry}
-use Rattle.model.specs.Geometry.{partitions}
-use Rattle.model.specs.Partition.{flushesOf}
-use Rattle.model.specs.Refusals.{listOverfull, somePageOverfull, lastFlush}
+use borrow.Author.Tests.{not-true, not-false, eq-eqb, ne-eqb}
+use Rattle.model.specs.Partition.{headOf, flushesOf}
+use Rattle.model.specs.Refusals.{refuseIf, headOverfull, somePageOverfull, lastFlush}
 use Rattle.model.specs.Flush.{inUse, flushChecks}
+use Rattle.model.proofs.Checks.{flush-12, flush-12-page, flush-last}
+use Rattle.head.proofs.Fields.{flushes-is}
 use Rattle.partition.proofs.Inside.{list-inside}
 use Rattle.flush.proofs.decide.Statement.{statement}
 use Rattle.flush.proofs.decide.Tie as tie
 
-module _ (g : Geometry) (t : ℕ) (p : List ℕ) (below : t < partitions g) where
-  list-over : listOverfull g p ≡ true → flushChecks g t p ≡ some 12
-  unfolding flushChecks
-  list-over h = rw (lt-ltb t (partitions g) below, h)
+overfull : (c : tie.After-is-overfull) → let a = c .before .before .before .args in c .is-overfull .result ≡ headOverfull (a .g) (headOf (a .part .now))
+overfull c = c .is-overfull .ensures ∙ ap (headOverfull (c .before .before .before .args .g)) (c .before .read .ensures)
 
-  module _ (listFits : listOverfull g p ≡ false) where
-    page-over : somePageOverfull g p ≡ true → flushChecks g t p ≡ some 12
-    unfolding flushChecks
-    page-over h = rw (lt-ltb t (partitions g) below, listFits, h)
+head-fits : (c : tie.Else1) → let a = c .before .before .before .before .args in headOverfull (a .g) (headOf (a .part .now)) ≡ false
+head-fits c = sym (overfull (c .before)) ∙ c .if1 .left
 
-    module _ (pagesFit : somePageOverfull g p ≡ false) where
-      unused : inUse g p ≡ false → flushChecks g t p ≡ some 15
-      unfolding flushChecks
-      unused h = rw (lt-ltb t (partitions g) below, listFits, pagesFit, h)
-
-      module _ (used : inUse g p ≡ true) where
-        last : flushesOf p ≡ lastFlush → flushChecks g t p ≡ some 16
-        unfolding flushChecks
-        last h = rw (lt-ltb t (partitions g) below, listFits, pagesFit, used, eq-eqb (flushesOf p) lastFlush h)
-
-        accepted : (flushesOf p ≡ lastFlush → ⊥) → flushChecks g t p ≡ none
-        unfolding flushChecks
-        accepted h = rw (lt-ltb t (partitions g) below, listFits, pagesFit, used, ne-eqb (flushesOf p) lastFlush h)
-
-list-fits : (c : tie.Else1) → let a = c .before .before .before .args in listOverfull (a .g) (a .part .now) ≡ false
-list-fits c = sym (c .before .is-list-overfull .ensures) ∙ c .if1 .left
-
-pages-fit : (c : tie.Else2) → let a = c .before .before .before .before .before .args in somePageOverfull (a .g) (a .part .now) ≡ false
+pages-fit : (c : tie.Else2) → let a = c .before .before .before .before .before .before .args in somePageOverfull (a .g) (a .part .now) ≡ false
 pages-fit c = sym (c .before .is-some-page-overfull .ensures) ∙ c .if2 .left
 
-in-use : (c : tie.Else3) → let a = c .before .before .before .before .before .before .before .args in inUse (a .g) (a .part .now) ≡ true
-in-use c = sym (c .before .is-in-use .ensures) ∙ not-false _ (c .if3 .left)
-
 returns : tie.Need-returns
-returns c = sym (list-over _ _ _ (c .before .before .before .pre .1) (sym (c .before .is-list-overfull .ensures) ∙ c .if1 .taken))
+returns c = ap some (c .unread .ensures) ∙ sym (flush-12 _ _ _ (c .before .before .before .before .before .pre .1) (sym (overfull (c .before .before)) ∙ c .before .if1 .taken))
 
 returns-2 : tie.Need-returns-2
-returns-2 c = sym (page-over _ _ _ (c .before .before .before .before .before .pre .1) (list-fits (c .before .before)) (sym (c .before .is-some-page-overfull .ensures) ∙ c .if2 .taken))
+returns-2 c = ap some (c .unread2 .ensures) ∙ sym (flush-12-page _ _ _ (c .before .before .before .before .before .before .before .pre .1) (head-fits (c .before .before .before)) (sym (c .before .before .is-some-page-overfull .ensures) ∙ c .before .if2 .taken))
 
 returns-3 : tie.Need-returns-3
-returns-3 c =
-    let e = c .before .before in
-    sym (unused _ _ _ (e .before .before .before .before .before .pre .1) (list-fits (e .before .before)) (pages-fit e) (sym (c .before .is-in-use .ensures) ∙ not-true _ (c .if3 .taken)))
+returns-3 c = ap some (c .unread3 .ensures) ∙ sym (flush-last _ _ _ (c .before .before .before .before .before .before .before .before .before .pre .1) (head-fits (c .before .before .before .before .before)) (pages-fit (c .before .before .before)) ∙ rw (sym (c .before .before .is-in-use .ensures) ∙ not-true _ (c .before .if3 .taken)))
 
-u32-at-requires : tie.Need-u32-at-requires
-u32-at-requires c κs = omega (arith, list-inside _ _ (c .before .before .before .before .before .before .before .pre .0))
+-- only the flush number is left to ask for
+in-use : (c : tie.Else3) → let a = c .before .before .before .before .before .before .before .before .args in inUse (a .g) (a .part .now) ≡ true
+in-use c = sym (c .before .is-in-use .ensures) ∙ not-false _ (c .if3 .left)
+
+abbrev start : tie.After-struct-known → tie.Start
+start c = c .before .before .before .before .before .before .before .before .before
+
+number : (c : tie.After-struct-known) → let a = start c .args in (b : Bool) → eqb (flushesOf (a .part .now)) lastFlush ≡ b → flushChecks (a .g) (a .t) (a .part .now) ≡ refuseIf b 16 none
+number c b e = flush-last _ _ _ (start c .pre .1) (head-fits (c .before .before .before .before .before)) (pages-fit (c .before .before .before)) ∙ rw (in-use (c .before), e)
 
 returns-4 : tie.Need-returns-4
-returns-4 c =
-    let e = c .before .before in
-    let b = e .before .before in
-    sym (last _ _ _ (b .before .before .before .before .before .pre .1) (list-fits (b .before .before)) (pages-fit b) (in-use e) (omega arith))
+returns-4 c = ap some (c .unread4 .ensures) ∙ sym (number (c .before .before) true (eq-eqb _ lastFlush (sym (flushes-is (c .before .before .before .before .before .before .before .before .before .read .ensures)) ∙ c .before .if4 .taken)))
 
 returns-5 : tie.Need-returns-5
-returns-5 c =
-    let e = c .before .before in
-    let b = e .before .before in
-    sym (accepted _ _ _ (b .before .before .before .before .before .pre .1) (list-fits (b .before .before)) (pages-fit b) (in-use e) (omega arith))
+returns-5 c = sym (number (c .before) false (ne-eqb _ lastFlush (λ e. c .if4 .left (flushes-is (c .before .before .before .before .before .before .before .before .read .ensures) ∙ e))))
 
 pub decide-spec : {M : Type 1} → statement M
-decide-spec = tie.close (tie.spec (λ c κs. search needs) returns (λ c κs. search needs) returns-2 (λ c κs. search needs) returns-3 u32-at-requires returns-4 returns-5)
+decide-spec = tie.close (tie.spec (λ c κs. omega (arith, list-inside _ _ (c .before .pre .0))) (λ c κs. tt) (λ c κs. tt) returns (λ c κs. search needs) (λ c κs. tt) returns-2 (λ c κs. search needs) (λ c κs. tt) returns-3 (λ c κs. tt) returns-4 returns-5)

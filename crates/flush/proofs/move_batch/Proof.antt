@@ -1,93 +1,97 @@
--- A turn writes page q and empties it, as the definitions do at suc q; the pages behind it are still as they were.
+-- A turn writes page q and empties it, as the definitions do at q + 1; the pages behind it are still as they were.
+use Prim.Native.Nat.{ℕ, _+_, _-_, _≤_, _<_}
+use mathlib.Core.Path.{_≡_, refl, sym, _∙_, ap}
 use native.Mathlib.Omega.{arith}
-use Rattle.flush.proofs.move_batch.Statement.{statement}
-use Rattle.flush.proofs.move_batch.Tie as tie
-use Prim.Native.Nat.{ℕ, _-_, _≤_, _<_}
-use mathlib.Core.Path.{_≡_, refl, _∙_, ap}
-use native.Mathlib.Numerals.{add-one}
 use lib.ListN.{length}
 use Rattle.model.specs.Format.{emptiedPages}
-use Rattle.model.specs.Flush.{written}
+use Rattle.model.specs.Flush.{withBatch}
+use Rattle.model.specs.Partition.{flushesOf}
 use Rattle.model.proofs.Parts.{length-within}
 use Rattle.model.proofs.Sizes.{sizes, slot-lt, slot-page-fits}
+use Rattle.model.proofs.Partitions.{emptied-none}
+use Rattle.model.proofs.PartitionsFlash.{batch-none}
+use Rattle.head.proofs.Fields.{flushes-is}
 use Rattle.partition.proofs.Inside.{list-inside, page-inside}
-use Rattle.flush.proofs.Moving.{later-kept}
+use Rattle.flush.proofs.Moving.{emptied-turn, batch-turn}
+use Rattle.flush.proofs.move_batch.Statement.{statement}
+use Rattle.flush.proofs.move_batch.Tie as tie
 
 abbrev Inv-loop : tie.InvT-loop
 Inv-loop part₀ flash₀ g t n j pages size q₀ part flash q =
-    (q ≤ pages) × (length part ≡ length part₀) × (length flash ≡ length flash₀) × (part ≡ emptiedPages g t q part₀) × (flash ≡ written g t part₀ q flash₀)
+    (q ≤ pages) × (length part ≡ length part₀) × (length flash ≡ length flash₀) × (part ≡ emptiedPages g t q part₀) × (flash ≡ withBatch g t part₀ q flash₀)
 
 abbrev μ-loop : tie.MeasureT-loop
 μ-loop part₀ flash₀ g t n j pages size q₀ part flash q = pages - q
 
-u32-at-requires : tie.Need-u32-at-requires Inv-loop μ-loop
-u32-at-requires c κs = omega (arith, list-inside _ _ (c .before .before .before .pre .0))
+-- ---- the steps that the facts go back to
+abbrev start : tie.After-slot-of Inv-loop μ-loop → tie.Start Inv-loop μ-loop
+start c = c .before .before .before .before .before .before
+
+abbrev slotted : tie.In-loop Inv-loop μ-loop → tie.After-slot-of Inv-loop μ-loop
+slotted c = c .before .before .before
+
+abbrev turn : tie.After-copy-numbered Inv-loop μ-loop → tie.In-loop Inv-loop μ-loop
+turn c = c .before .before .before .before .before
+
+abbrev copied : tie.After-slice-known4 Inv-loop μ-loop → tie.After-copy-numbered Inv-loop μ-loop
+copied c = c .before .before .before .before .before .before
+
+-- ---- the batch and its slot
+number : (c : tie.After-slot-of Inv-loop μ-loop) → c .before .before .read .result .flushes ≡ flushesOf (start c .args .part .now)
+number c = flushes-is (c .before .before .read .ensures)
 
 add-n : tie.Need-add-n Inv-loop μ-loop
-add-n c = omega (arith, c .before .before .before .before .pre .1 .1 .0, c .u32-at .ensures)
+add-n c = omega (arith, c .before .before .before .before .before .pre .1 .1 .0, flushes-is (c .before .read .ensures))
 
-slot-of-requires : tie.Need-slot-of-requires Inv-loop μ-loop
-slot-of-requires c κs = (c .before .before .before .before .pre .0 .fine, omega arith)
+slot-below : (c : tie.After-slot-of Inv-loop μ-loop) → c .slot-of .result < start c .args .g .kept
+slot-below c = omega (arith, c .slot-of .ensures, slot-lt (start c .args .g) (start c .pre .0 .fine) (c .before .before .read .result .flushes + 1))
 
 loop-holds : tie.Need-loop-holds Inv-loop μ-loop
-unfolding emptiedPages written
-loop-holds c = (omega arith, refl, refl, refl, refl)
+loop-holds c = (omega arith, refl, refl, sym (emptied-none _ _ _), sym (batch-none _ _ _ _))
 
-slot-below : (c : tie.After-slot-of Inv-loop μ-loop) → c .slot-of .result < c .before .before .before .before .before .args .g .kept
-slot-below c = rw (c .slot-of .ensures) (slot-lt _ (c .before .before .before .before .before .pre .0 .fine) _)
-
-in-pages : (c : tie.In-loop Inv-loop μ-loop) → c .before .loop .q < c .before .before .before .before .before .before .before .before .args .g .pages
-in-pages c = let z = sizes _ (c .before .before .before .before .before .before .before .before .pre .0 .fine) in omega arith
+-- ---- a turn
+in-pages : (c : tie.In-loop Inv-loop μ-loop) → c .before .loop .q < start (slotted c) .args .g .pages
+in-pages c = let z = sizes _ (start (slotted c) .pre .0 .fine) in omega arith
 
 slot-page-at-requires : tie.Need-slot-page-at-requires Inv-loop μ-loop
-slot-page-at-requires c κs = let s = c .before .before .before .before .before .before .before .before in (s .pre .0 .fine, (s .pre .1 .0, (slot-below (c .before .before .before), in-pages c)))
-
-buffer-at-requires : tie.Need-buffer-at-requires Inv-loop μ-loop
-buffer-at-requires c κs = (c .before .before .before .before .before .before .before .before .before .pre .0 .fine, omega (arith, in-pages (c .before)))
+slot-page-at-requires c κs = let s = start (slotted c) in (s .pre .0 .fine, (s .pre .1 .0, (slot-below (slotted c), in-pages c)))
 
 copy-numbered-requires : tie.Need-copy-numbered-requires Inv-loop μ-loop
 copy-numbered-requires c κs =
-    let s = c .before .before .before .before .before .before .before .before .before .before .before .before in
+    let j = slotted (c .before .before .before .before) in
+    let s = start j in
     let l = c .before .before .before .before .before .loop in
     let z = sizes _ (s .pre .0 .fine) in
-    let q = in-pages (c .before .before .before .before) in
-    let f = slot-page-fits (s .args .g) (s .args .t) _ (l .q) (s .pre .1 .0) (slot-below (c .before .before .before .before .before .before .before)) q in
-    let p = page-inside _ _ (s .pre .0) (l .q) q in
+    let f = slot-page-fits (s .args .g) (s .args .t) _ (l .q) (s .pre .1 .0) (slot-below j) (in-pages (c .before .before .before .before)) in
+    let p = page-inside _ _ (s .pre .0) (l .q) (in-pages (c .before .before .before .before)) in
     (omega (arith, f, c .before .before .before .slot-page-at .ensures, l .inv .2, s .pre .1 .1 .1), (omega (arith, p, c .before .before .buffer-at .ensures, l .inv .1), omega arith))
 
 empty-page-requires : tie.Need-empty-page-requires Inv-loop μ-loop
 empty-page-requires c κs =
-    let s = c .before .before .before .before .before .before .before .before .before .before .before .before .before .before .before .before in
-    (record { fine = s .pre .0 .fine; long = omega (arith, s .pre .0 .long, c .before .before .before .before .before .before .before .before .before .loop .inv .1) }, (s .pre .1 .0, omega (arith, in-pages (c .before .before .before .before .before .before .before .before))))
+    let i = turn (c .before .before .before) in
+    let s = start (slotted i) in
+    (record { fine = s .pre .0 .fine; long = omega (arith, s .pre .0 .long, i .before .loop .inv .1) }, (s .pre .1 .0, omega (arith, in-pages i)))
 
 loop-again : tie.Need-loop-again Inv-loop μ-loop
-unfolding emptiedPages written
 loop-again c =
-    let s = c .before .before .before .before .before .before .before .before .before .before .before .before .before .before .before .before .before .before .before in
-    let l = c .before .before .before .before .before .before .before .before .before .before .before .before .loop in
-    let q = in-pages (c .before .before .before .before .before .before .before .before .before .before .before) in
+    let i = turn (copied c) in
+    let j = slotted i in
+    let l = i .before .loop in
     let p = c .before .before .empty-page .ensures in
-    let f = c .before .before .before .before .before .before .copy-numbered .ensures in
-    let kept = later-kept (s .args .g) (s .args .t) (s .args .part .now) (s .pre .0 .long) (l .q) (l .q) (omega arith) q in (
+    let f = copied c .copy-numbered .ensures in (
       omega arith,
       ap length p ∙ length-within _ _ _ _ ∙ l .inv .1,
       ap length f ∙ length-within _ _ _ _ ∙ l .inv .2,
-      p ∙ rw (l .inv .3, add-one (l .q)),
-      f ∙ rw (c .before .before .before .before .before .before .before .before .before .before .slot-page-at .ensures, c .before .before .before .before .before .before .before .before .before .before .before .before .before .before .slot-of .ensures, c .before .before .before .before .before .before .before .before .before .before .before .before .before .before .before .u32-at .ensures, c .before .before .before .before .before .before .before .before .before .buffer-at .ensures, l .inv .3, kept, l .inv .4, add-one (l .q)),
+      p ∙ emptied-turn _ _ _ (start j .args .flash .now) _ (l .inv .3),
+      f ∙ batch-turn _ _ _ _ _ (l .inv .3) (start j .pre .0 .long) (in-pages i) (number j) refl (j .slot-of .ensures) (copied c .before .before .before .before .slot-page-at .ensures) (copied c .before .before .before .buffer-at .ensures) (l .inv .4),
     )
-
-same-length : tie.Need-same-length Inv-loop μ-loop
-same-length c = c .before .loop .inv .1
-
-same-length-2 : tie.Need-same-length-2 Inv-loop μ-loop
-same-length-2 c = c .before .loop .inv .2
 
 returns : tie.Need-returns Inv-loop μ-loop
 returns c =
-    let a = c .before .before .before .before .before .before .before .before .args in
+    let a = c .before .before .before .before .before .before .before .before .before .args in
     let l = c .before .loop in
     let e : l .q ≡ a .g .pages = omega arith in
-    (l .inv .3 ∙ ap (λ (n : ℕ). emptiedPages (a .g) (a .t) n (a .part .now)) e, l .inv .4 ∙ ap (λ (n : ℕ). written (a .g) (a .t) (a .part .now) n (a .flash .now)) e)
+    (l .inv .3 ∙ ap (λ (n : ℕ). emptiedPages (a .g) (a .t) n (a .part .now)) e, l .inv .4 ∙ ap (λ (n : ℕ). withBatch (a .g) (a .t) (a .part .now) n (a .flash .now)) e)
 
 pub move-batch-spec : {M : Type 1} → statement M
-move-batch-spec = tie.close (tie.spec Inv-loop μ-loop u32-at-requires add-n slot-of-requires (λ c. omega arith) loop-holds slot-page-at-requires buffer-at-requires copy-numbered-requires empty-page-requires (λ c. omega arith) (λ c. omega arith) loop-again same-length same-length-2 returns)
+move-batch-spec = tie.close (tie.spec Inv-loop μ-loop (λ c κs. omega (arith, list-inside _ _ (c .before .before .before .pre .0))) add-n (λ c κs. (c .before .before .before .before .before .pre .0 .fine, omega arith)) (λ c. omega arith) loop-holds slot-page-at-requires (λ c κs. (start (slotted (c .before)) .pre .0 .fine, omega (arith, in-pages (c .before)))) copy-numbered-requires empty-page-requires (λ c. omega arith) (λ c. omega arith) loop-again (λ c. c .before .loop .inv .1) (λ c. c .before .loop .inv .2) returns)
