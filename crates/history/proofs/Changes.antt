@@ -6,17 +6,15 @@ use mathlib.Core.List.{List, [], _∷_}
 use mathlib.Core.Option.{Option, none, some}
 use native.Mathlib.Omega.{arith}
 use native.Mathlib.Decide.{ℕ-discrete}
-use lib.Dec.{eqb}
 use lib.ListN.{length}
-use borrow.Author.Tests.{eqb-true}
 use Rattle.model.specs.declared.Geometry.{Geometry}
 use Rattle.model.specs.Search.{isSome}
 use Rattle.model.specs.Geometry.{capacity}
 use Rattle.model.specs.Keys.{pageOf}
-use Rattle.model.proofs.Tests.{either}
 use Rattle.model.proofs.Tables.{Entry, find, store, erase, Distinct, find-store-same, find-store-other, find-erase-same, find-erase-other, store-new, distinct-store, distinct-erase, length-store, length-erase}
 use Rattle.model.proofs.Partitions.{modify, modify-at}
 use Rattle.history.specs.History.{Known}
+use Rattle.history.proofs.Modify.{modify-all}
 use Rattle.history.proofs.Table.{Part, Live, remade, passing, isEmpty, mustList, stored, enlist, deleted}
 use Rattle.history.proofs.Told.{listed, absent, present, told-same, told-forget}
 use Rattle.history.proofs.Core.{seen, KeyOk, PartOk, Touch}
@@ -32,7 +30,6 @@ module _ (g : Geometry) (k : ℕ) (w : Option Known) (p : Part) (ok : PartOk g p
       → Distinct (c (p .buffer (pageOf g k))) → length (c (p .buffer (pageOf g k))) ≤ capacity g
       → ((j : ℕ) → (j ≡ k → ⊥) → (b : List Entry) → find j (c b) ≡ find j b)
       → KeyOk g (changed g k p l c) k w → Touch g k w p (changed g k p l c)
-  unfolding modify
   changed-touch once fits others stamp bufferOnce bufferFits bufferOthers own = record {
     ok = record {
       liveKept = ok .liveKept;
@@ -43,16 +40,12 @@ module _ (g : Geometry) (k : ℕ) (w : Option Known) (p : Part) (ok : PartOk g p
         | yes same ↦ stamp n (rw same at e)
         | no apart ↦ ok .stamps j n (sym (others j apart) ∙ e)
       ];
-      apart = λ q. either (eqb q (pageOf g k))
-          (λ h. simp h (rw (eqb-true q (pageOf g k) h) bufferOnce))
-          (λ h. simp h (ok .apart q));
-      fits = λ q. either (eqb q (pageOf g k))
-          (λ h. simp h (rw (eqb-true q (pageOf g k) h) bufferFits))
-          (λ h. simp h (ok .fits q));
+      apart = modify-all (λ q. Distinct) (pageOf g k) c (p .buffer) (λ q e. rw e bufferOnce) (λ q e. ok .apart q);
+      fits = modify-all (λ q b. length b ≤ capacity g) (pageOf g k) c (p .buffer) (λ q e. rw e bufferFits) (λ q e. ok .fits q);
     };
     own = own;
     other = λ j n v. told-same (others j n) (λ a. elim a as (λ a. seen g (changed g k p l c) j a ≡ seen g p j a) [
-      | zero ↦ either (eqb (pageOf g j) (pageOf g k)) (λ h. simp (h, bufferOthers j n)) (λ h. simp h)
+      | zero ↦ modify-all (λ q b. find j b ≡ find j (p .buffer q)) (pageOf g k) c (p .buffer) (λ q e. bufferOthers j n (p .buffer q)) (λ q e. refl) (pageOf g j)
       | suc a ↦ refl
     ]);
     same = refl;

@@ -1,13 +1,13 @@
 -- What a table and its history have in common, but for the counting of pages, and that a flush keeps it.
-use Prim.Native.Nat.{ℕ, zero, suc, _+_, _-_, _≤_, min}
-use mathlib.Core.Bool.{true, false, cond}
+use Prim.Native.Nat.{ℕ, zero, suc, _-_, _≤_}
 use mathlib.Core.Path.{_≡_, refl, sym, _∙_, ap}
 use mathlib.Core.List.{List}
 use mathlib.Core.Option.{Option, none, some}
 use native.Mathlib.Omega.{arith}
 use lib.Dec.{eqb}
 use lib.ListN.{length}
-use borrow.Author.Tests.{eqb-true, eqb-false, eq-eqb}
+use native.Mathlib.Decide.{ℕ-discrete}
+use borrow.Author.Tests.{eq-eqb, ne-eqb}
 use Rattle.model.specs.declared.Geometry.{Geometry}
 use Rattle.model.specs.Geometry.{capacity}
 use Rattle.model.specs.Keys.{partitionOf, pageOf}
@@ -15,8 +15,8 @@ use Rattle.model.proofs.Tests.{numbers, either}
 use Rattle.model.proofs.Tables.{Entry, find, strike, Distinct, unless, find-strike, distinct-strike, length-strike}
 use Rattle.model.proofs.Partitions.{modify, modify-at, modify-off}
 use Rattle.history.specs.History.{Known, History, older, aged, withKey}
-use Rattle.history.proofs.Modify.{cond-both}
-use Rattle.history.proofs.Table.{Part, Live, flushed, expires}
+use Rattle.history.proofs.Modify.{modify-all, cond-both}
+use Rattle.history.proofs.Table.{Part, Live, expires, liveAfter, flushed}
 use Rattle.history.proofs.Told.{Told, told-same, told-flush}
 
 -- the pages of an age: the buffer at 0, then the batches, youngest first
@@ -64,13 +64,13 @@ module _ (g : Geometry) where
       (told-flush (seen g p k) (seen g (flushed g p) k) refl (λ a. ap (find k) (flushed-pages p (pageOf g k) a)) (g .kept) told)
 
   -- a stamp that did not expire is still live
-  flushed-stamps : (p : Part) → PartOk g p → (j n : ℕ) → find j (strike (expires g p) (p .list)) ≡ some n → Live (flushed g p) n
+  flushed-stamps : (p : Part) → PartOk g p → (j n : ℕ) → find j (strike (expires (g .kept) (p .flushes)) (p .list)) ≡ some n → Live (flushed g p) n
   unfolding flushed
-  flushed-stamps p ok j n e = go (find j (p .list)) refl (sym (find-strike (expires g p) j (p .list) (ok .once)) ∙ e)
+  flushed-stamps p ok j n e = go (find j (p .list)) refl (sym (find-strike (expires (g .kept) (p .flushes)) j (p .list) (ok .once)) ∙ e)
     where
-      go : (o : Option ℕ) → find j (p .list) ≡ o → unless (expires g p) o ≡ some n → Live (flushed g p) n
+      go : (o : Option ℕ) → find j (p .list) ≡ o → unless (expires (g .kept) (p .flushes)) o ≡ some n → Live (flushed g p) n
       go none was now = let z : _≡_ {A = ℕ} 0 1 = cc in absurd (omega arith)
-      go (some m) was now = either (expires g p m)
+      go (some m) was now = either (expires (g .kept) (p .flushes) m)
           (λ h. let z : none ≡ some n = simp h at now in let z : _≡_ {A = ℕ} 0 1 = cc in absurd (omega arith))
           (λ h.
           let same : some m ≡ some n = simp h at now in
@@ -84,7 +84,7 @@ module _ (g : Geometry) where
     liveKept = omega arith;
     liveFlushed = omega (arith, ok .liveFlushed);
     once = distinct-strike _ (p .list) (ok .once);
-    listFits = omega (arith, length-strike (expires g p) (p .list), ok .listFits);
+    listFits = omega (arith, length-strike (expires (g .kept) (p .flushes)) (p .list), ok .listFits);
     stamps = flushed-stamps p ok;
     apart = λ q. tt;
     fits = λ q. omega arith;
@@ -95,16 +95,10 @@ unfolding modify flushed
 core-flush h t ps c =
     let g = h .geometry in
     record {
-      parts = λ u. elim (eqb u t) as (λ b. PartOk g (cond b (flushed g (ps u)) (ps u))) [
-        | true ↦ flushed-ok g (ps u) (c .parts u)
-        | false ↦ c .parts u
-      ];
+      parts = modify-all (λ u. PartOk g) t (flushed g) ps (λ u e. flushed-ok g (ps u) (c .parts u)) (λ u e. c .parts u);
       keys = λ k. cond-both (λ p w. KeyOk g p k w) (eqb (partitionOf g k) t)
           (flushed-key g _ k _ (c .parts (partitionOf g k)) (c .keys k)) (c .keys k);
-      lives = λ u. elim (eqb u t) as (λ b. cond b (min (g .kept) (h .live u + 1)) (h .live u) ≡ cond b (flushed g (ps u)) (ps u) .live) [
-        | true ↦ ap (λ (n : ℕ). min (g .kept) (n + 1)) (c .lives u)
-        | false ↦ c .lives u
-      ];
+      lives = λ u. cond-both (λ (p : Part) (n : ℕ). n ≡ p .live) (eqb u t) (ap (liveAfter (g .kept)) (c .lives u)) (c .lives u);
     }
 
 -- `p′` is `p` changed for the one key `k`, of which the history then knows `w`
@@ -117,21 +111,17 @@ pub record Touch (g : Geometry) (k : ℕ) (w : Option Known) (p p′ : Part) : T
 module _ (h : History) (k : ℕ) (w : Option Known) (c : Part → Part) (ps : ℕ → Part) where
   pub core-touch : Core ps h → Touch (h .geometry) k w (ps (partitionOf (h .geometry) k)) (c (ps (partitionOf (h .geometry) k)))
       → Core (modify (partitionOf (h .geometry) k) c ps) (withKey k w h)
-  unfolding modify
   core-touch core touch =
       let g = h .geometry in
+      let t : ℕ = partitionOf g k in
       record {
-        parts = λ u. either (eqb u (partitionOf g k))
-            (λ e. simp e (rw (eqb-true u _ e) (touch .ok)))
-            (λ e. simp e (core .parts u));
-        keys = λ j. either (eqb j k)
-            (λ e. rw (eqb-true j k e) (simp (eq-eqb k k refl, eq-eqb (partitionOf g k) (partitionOf g k) refl) (touch .own)))
-            (λ e. simp e (either (eqb (partitionOf g j) (partitionOf g k))
-            (λ e′.
-            let same : partitionOf g j ≡ partitionOf g k = eqb-true (partitionOf g j) (partitionOf g k) e′ in
-            simp e′ (rw same (touch .other j (eqb-false j k e) _ (rw same at (core .keys j)))))
-            (λ e′. simp e′ (core .keys j))));
-        lives = λ u. either (eqb u (partitionOf g k))
-            (λ e. simp e (rw (eqb-true u _ e) (core .lives (partitionOf g k) ∙ sym (touch .same))))
-            (λ e. simp e (core .lives u));
+        parts = modify-all (λ u. PartOk g) t c ps (λ u e. rw e (touch .ok)) (λ u e. core .parts u);
+        keys = λ j. elim (ℕ-discrete j k) [
+          | yes e ↦ rw (e, eq-eqb k k refl, modify-at t c ps t refl) (touch .own)
+          | no e ↦ rw (ne-eqb j k e) (elim (ℕ-discrete (partitionOf g j) t) [
+            | yes same ↦ rw (modify-at t c ps (partitionOf g j) same, same) (touch .other j e _ (rw same at (core .keys j)))
+            | no apart ↦ rw (modify-off t c ps (partitionOf g j) apart) (core .keys j)
+          ])
+        ];
+        lives = modify-all (λ u p. h .live u ≡ p .live) t c ps (λ u e. rw e (core .lives t ∙ sym (touch .same))) (λ u e. core .lives u);
       }

@@ -1,11 +1,10 @@
 -- A flush of bytes that show a partition shows the flushed partition.
-use Prim.Native.Nat.{ℕ, suc, _+_, _^_, _≤_, _<_, min}
+use Prim.Native.Nat.{ℕ, suc, _+_, _^_, _≤_, _<_}
 use mathlib.Core.Bool.{Bool, true}
 use mathlib.Core.Path.{_≡_, refl, _∙_, ap, ap₂}
 use mathlib.Core.List.{List}
 use native.Mathlib.Omega.{arith}
 use native.Mathlib.Decide.{ℕ-discrete}
-use lib.Dec.{eqb}
 use lib.ListN.{length}
 use Rattle.model.specs.declared.Geometry.{Geometry}
 use Rattle.model.specs.Geometry.{allowed, partitions, flashNeed}
@@ -23,7 +22,7 @@ use Rattle.model.proofs.Heads.{words-after, flushes-after, listed-after, live-a
 use Rattle.model.proofs.Partitions.{modify, modify-at, modify-off}
 use Rattle.model.proofs.PartitionsFlash.{slot-apart, batch-out, batch-page}
 use Rattle.model.proofs.PartitionsCalls.{list-long, page-long, laid-flushed}
-use Rattle.history.proofs.Table.{Part, Live, flushed as flushedPart}
+use Rattle.history.proofs.Table.{Part, Live, expires, liveAfter, flushed as flushedPart}
 use Rattle.history.proofs.Pages.{shows-numbered, shows-emptied}
 use Rattle.history.proofs.Shows.{ShowsBatchPage, same-batch-page, ShowsPart, shows-laid, list-count}
 
@@ -72,10 +71,10 @@ module _ (g : Geometry) (ok : allowed g ≡ true) (t : ℕ) (below : t < partiti
   shows-flushed = shows-laid ok (laid-flushed g ok p (shows .long) (shows .words) t more)
       (words-after g p (shows .words) more)
       (flushes-after g p ∙ omega (arith, shows .flushes))
-      (live-after g p ∙ ap (λ (n : ℕ). min (g .kept) (n + 1)) (shows .live))
+      (live-after g p ∙ ap (liveAfter (g .kept)) (shows .live))
       (ap₂ listEntries (listed-after g p) refl
       ∙ entries-expired (listedOf p) (listOf g p) (omega (arith, fits, list-count shows, list-long g ok p (shows .long))) (g .kept) (flushesOf p)
-      ∙ ap₂ (λ (F : ℕ) (l : List Entry). strike (λ x. eqb (x + g .kept) (F + 1)) l) (shows .flushes) (shows .list))
+      ∙ ap₂ (λ (F : ℕ) (l : List Entry). strike (expires (g .kept) F) l) (shows .flushes) (shows .list))
       (λ q l. shows-emptied g ok t q (bufferOf g p q) (omega (arith, sizes g ok .partitions-max)) (omega (arith, sizes g ok .pages-max)) (page-long g ok p (shows .long) q l))
       (λ n live q l. elim (ℕ-discrete n (suc (s .flushes))) [
         | yes e ↦ same-batch-page refl

@@ -59,14 +59,19 @@ due g k p = not (isSome (find k (p .buffer (pageOf g k)))) && eqb (length (p .bu
 unfoldable pub mustList : Geometry → ℕ → Part → Bool
 mustList g k p = not (isSome (find k (p .list))) && not (isEmpty (passing g k p))
 
-abbrev pub expires : Geometry → Part → ℕ → Bool
-expires g p stamp = eqb (stamp + g .kept) (p .flushes + 1)
+-- a stamp that leaves the list with flush F + 1
+abbrev pub expires : ℕ → ℕ → ℕ → Bool
+expires kept F stamp = eqb (stamp + kept) (F + 1)
+
+-- the live number after one flush more
+abbrev pub liveAfter : ℕ → ℕ → ℕ
+liveAfter kept live = min kept (live + 1)
 
 unfoldable pub flushed : Geometry → Part → Part
 flushed g p = record {
   flushes = suc (p .flushes);
-  live = min (g .kept) (p .live + 1);
-  list = strike (expires g p) (p .list);
+  live = liveAfter (g .kept) (p .live);
+  list = strike (expires (g .kept) (p .flushes)) (p .list);
   buffer = nothing;
   batch = modify (suc (p .flushes)) (λ old. p .buffer) (p .batch);
 }

@@ -1,18 +1,18 @@
 -- What one key comes to: its stamp in the list, what each place holds of it by age, and what the history knows of it.
 -- Age 0 is the buffer, age a the batch F + 1 - a.
-use Prim.Native.Nat.{ℕ, zero, suc, _+_, _≤_, _<_, min}
+use Prim.Native.Nat.{ℕ, zero, suc, _+_, _≤_, _<_}
 use mathlib.Core.Bool.{true, false≢true}
 use mathlib.Core.Path.{_≡_, refl, sym, _∙_, subst₂, fun-ext}
 use mathlib.Core.Option.{Option, none, some}
 use native.Mathlib.Numerals.{add-one}
 use native.Mathlib.Omega.{arith}
 use native.Mathlib.Decide.{decLe}
-use lib.Dec.{eqb}
 use borrow.Author.Tests.{lt-ltb, le-ltb}
 use Rattle.model.specs.Search.{isSome}
 use Rattle.model.proofs.Tests.{numbers, either}
 use Rattle.model.proofs.Tables.{unless}
 use Rattle.history.specs.History.{Known, older}
+use Rattle.history.proofs.Table.{expires, liveAfter}
 
 -- A listed key is in no place younger than the batch of its stamp. A key that the history knows is in the place of its age, and in no
 -- younger one. Any other key is in no live place. The places are those up to the age of the live number.
@@ -49,9 +49,9 @@ module _ (f f′ : ℕ → Option ℕ) (start : f′ 0 ≡ none) (shift : (a : �
   later (suc c) h = shift c ∙ h c refl
 
   pub told-flush : (kept : ℕ) {live F : ℕ} {m : Option ℕ} {w : Option Known} → Told live F m f w
-      → Told (min kept (live + 1)) (suc F) (unless (λ s. eqb (s + kept) (F + 1)) m) f′ (older kept w)
+      → Told (liveAfter kept live) (suc F) (unless (expires kept F) m) f′ (older kept w)
   unfolding older
-  told-flush kept {live} {F} (listed {s = s} silent) = either (eqb (s + kept) (F + 1))
+  told-flush kept {live} {F} (listed {s = s} silent) = either (expires kept F s)
       (λ h. simp h (absent (λ b l. later b (λ c q. silent c (omega numbers)))))
       (λ h. simp h (listed {s = s} (λ b l. later b (λ c q. silent c (omega arith)))))
   told-flush kept {live} {F} (absent silent) = absent (λ b l. later b (λ c q. silent c (omega arith)))
