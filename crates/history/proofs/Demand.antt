@@ -54,7 +54,7 @@ module _ (a : Areas) (h : History) (inv : InStep a h) where
         let b = find k (s .buffer (pageOf g k)) in
         record {
           says = rw answers (lookedUp-says g k s within (page-of-lt g (inv .shows .ok) k) m b (h .keys k) refl (inv .good .core .keys k));
-          reads = rw (answers, lookedUp-reads g k s within m b, inv .good .core .lives (partitionOf g k)) (live-count s (batchesFor g k s m b) (batches-live g k s within m b));
+          reads = rw (answers, lookedUp-reads g k s within m b, inv .good .core .lives (partitionOf g k)) (omega (arith, live-count s (batchesFor g k s m b) (batches-live g k s within m b)));
           counts = rw (answers, reads) (lookedUp-reads g k s within m b);
           follows = follows a k;
           batches = rw (reads, inv .shows .geometry, shown .flushes)
