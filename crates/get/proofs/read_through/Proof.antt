@@ -39,9 +39,6 @@ Turn = tie.At-batches Inv-loop μ-loop Inv-batches μ-batches
 abbrev start : Turn → tie.Start Inv-loop μ-loop Inv-batches μ-batches
 start l = l .before .before .before .before .before .before .before .before .before
 
-abbrev turn : tie.After-slot-page-at Inv-loop μ-loop Inv-batches μ-batches → Turn
-turn c = c .before .before .before .before .before
-
 -- the head is the partition's, and counts what is live in it
 counted : (c : tie.After-live Inv-loop μ-loop Inv-batches μ-batches) → let a = c .before .before .before .before .before .before .before .args in c .live .result ≡ live (a .g) (headOf (a .part .now))
 counted c = let a = c .before .before .before .before .before .before .before .args in c .live .ensures ∙ ap (live (a .g)) (c .before .read .ensures)
@@ -74,7 +71,11 @@ slot-kept c = slotted c ∙ slot-after _ _
 tested : (c : tie.After-passes Inv-loop μ-loop Inv-batches μ-batches) → let l = c .before .before .before in let a = start l .args in c .passes .result ≡ batchPasses (a .g) (a .key) (a .part .now) (l .batches .next)
 tested c = let l = c .before .before .before in let a = start l .args in own-filter (a .g) (a .key) (a .part .now) (a .flash .now) (l .batches .next) _ _ (c .passes .result) (c .passes .ensures) (l .before .before .before .before .before .before .mix .ensures) (slotted (c .before))
 
--- the turn's page begins where the definition says, inside flash
+-- the turn of a page
+abbrev turn : tie.After-slot-page-at Inv-loop μ-loop Inv-batches μ-batches → Turn
+turn c = c .before .before .before .before .before
+
+-- it begins where the definition says, inside flash
 spot : (c : tie.After-slot-page-at Inv-loop μ-loop Inv-batches μ-batches) → let l = turn c in let a = start l .args in c .slot-page-at .result ≡ slotPageAt (a .g) (l .before .before .before .before .before .partition-of .result) (slot (a .g) (l .batches .next)) (l .before .before .before .before .page-of .result)
 spot c = let l = turn c in c .slot-page-at .ensures ∙ ap (λ (j : ℕ). slotPageAt (start l .args .g) (l .before .before .before .before .before .partition-of .result) j (l .before .before .before .before .page-of .result)) (slotted (c .before .before .before))
 
