@@ -6,7 +6,7 @@ use mathlib.Core.Path.{_≡_, sym, _∙_, ap}
 use Rattle.model.specs.declared.Geometry.{Geometry}
 use Rattle.model.specs.Answers.{done}
 use Rattle.model.specs.Bytes.{within}
-use Rattle.model.specs.Calls.{Call}
+use Rattle.model.specs.Calls.{Call, checks}
 use Rattle.model.specs.Del.{delChecks, unbuffered, listedWith, deleted}
 use Rattle.model.specs.Geometry.{stride, partitionAt}
 use Rattle.model.specs.Keys.{partitionOf}
@@ -29,6 +29,9 @@ module _ (g : Geometry) (m f : List ℕ) (table : IsTable g m f) (k : ℕ) where
   abbrev own : List ℕ
   own = partition g (partitionOf g k) m
 
+  checked : checks (areas m f) (Call.del k) ≡ delChecks g k own
+  checked = checks-del (areas m f) g (table .own) (table .opens) k
+
   -- what the plan means for the key's partition
   meant : (plan : Plan) → planFor g k own ≡ plan → Means g k own plan
   meant plan h = rw h at (plan-means g k own)
@@ -36,11 +39,11 @@ module _ (g : Geometry) (m f : List ℕ) (table : IsTable g m f) (k : ℕ) where
   -- an accepted del that leaves m′
   deletes : (m′ : List ℕ) → delChecks g k own ≡ none → m′ ≡ within (partitionAt g (partitionOf g k)) (stride g) (deleted g k) m → Performs (Call.del k) m f (done 0) m′ f
   deletes m′ h e =
-      performing.doing (Call.del k) m f 0 m′ f (checks-del (areas m f) g (table .own) (table .opens) k ∙ h) (result-del (areas m f) k)
+      performing.doing (Call.del k) m f 0 m′ f (checked ∙ h) (result-del (areas m f) k)
       (effect-del (areas m f) g (table .own) k ∙ ap (λ (x : List ℕ). areas x f) (sym e))
 
   pub refuses : (r : Refusal) → planFor g k own ≡ Plan.Refused r → Performs (Call.del k) m f (refusing r) m f
-  refuses r h = performing.refusing (Call.del k) m f (asRefusal r) (checks-del (areas m f) g (table .own) (table .opens) k ∙ meant (Plan.Refused r) h)
+  refuses r h = performing.refusing (Call.del k) m f (asRefusal r) (checked ∙ meant (Plan.Refused r) h)
 
   pub does-nothing : k < 2 ^ 64 → planFor g k own ≡ Plan.Nothing → Performs (Call.del k) m f (done 0) m f
   does-nothing l h =

@@ -19,16 +19,16 @@ decided : (c : tie.After-decide) → let a = c .before .before .before .before .
 decided c = let a = c .before .before .before .before .before .args in sym (c .decide .ensures ∙ ap (planFor (a .g) (a .key)) (c .before .part-of-key .ensures))
 
 apply-at-requires : tie.Need-apply-at-requires
-apply-at-requires c κs = let d = c .before .before .before .before in let s = d .before .before .before .before .before in (s .pre .fine, (s .pre .memoryFits, can-remove (s .args .g) (s .args .memory .now) (s .args .flash .now) (s .pre) (s .args .key) _ (decided d ∙ c .before .before .youngest .given .1)))
+apply-at-requires c κs = let d = c .before .before .before .before in let s = d .before .before .before .before .before in (s .pre .fine, (s .pre .memoryFits, can-remove _ _ _ (s .pre) _ _ (decided d ∙ c .before .before .youngest .given .1)))
 
 returns : tie.Need-returns
-returns c = let d = c .before .before .before in let s = d .before .before .before .before .before in refuses (s .args .g) (s .args .memory .now) (s .args .flash .now) (s .pre) (s .args .key) _ (decided d ∙ c .before .refusal .given .1)
+returns c = let d = c .before .before .before in let s = d .before .before .before .before .before in refuses _ _ _ (s .pre) _ _ (decided d ∙ c .before .refusal .given .1)
 
 returns-2 : tie.Need-returns-2
-returns-2 c = let d = c .before .before in let s = d .before .before .before .before .before in does-nothing (s .args .g) (s .args .memory .now) (s .args .flash .now) (s .pre) (s .args .key) (omega arith) (decided d ∙ c .enum-told .given .1)
+returns-2 c = let d = c .before .before in let s = d .before .before .before .before .before in does-nothing _ _ _ (s .pre) _ (omega arith) (decided d ∙ c .enum-told .given .1)
 
 returns-3 : tie.Need-returns-3
-returns-3 c = let d = c .before .before .before .before .before .before .before in let s = d .before .before .before .before .before in removes (s .args .g) (s .args .memory .now) (s .args .flash .now) (s .pre) (s .args .key) _ _ (decided d ∙ c .before .before .before .before .before .youngest .given .1) (c .before .before .apply-at .ensures)
+returns-3 c = let d = c .before .before .before .before .before .before .before in let s = d .before .before .before .before .before in removes _ _ _ (s .pre) _ _ _ (decided d ∙ c .before .before .before .before .before .youngest .given .1) (c .before .before .apply-at .ensures)
 
 pub call-spec : {M : Type 1} → statement M
 call-spec = tie.close (tie.spec (λ c κs. search needs) decide-requires (λ c. search needs) (λ c. search needs) (λ c. search needs) apply-at-requires (λ c. search needs) returns (λ c. search needs) returns-2 (λ c. search needs) returns-3)
