@@ -1,103 +1,79 @@
--- Which plan each outcome of the tests gives, and what a plan shows.
-use Prim.Native.Nat.{ℕ, _≤_, _<_}
-use mathlib.Core.Bool.{Bool, true, false, _&&_}
+-- Which plan each outcome of the tests gives, what a plan means for the call, and what an accepted put can do.
+use Prim.Native.Nat.{ℕ, _<_, _≤_}
+use mathlib.Core.Bool.{Bool, true, false}
 use mathlib.Core.List.{List}
 use mathlib.Core.Option.{Option, none, some}
 use mathlib.Core.Path.{_≡_, refl}
 use native.Mathlib.Omega.{arith}
-use lib.Dec.{eqb}
-use borrow.Author.Tests.{eq-eqb, ne-eqb, ltb-false, eqb-false}
+use borrow.Author.Tests.{eq-eqb, ne-eqb, eqb-false}
 use Rattle.model.specs.declared.Geometry.{Geometry}
 use Rattle.model.specs.Geometry.{capacity, partitions}
 use Rattle.model.specs.Keys.{pageOf}
 use Rattle.model.specs.Page.{countOf}
 use Rattle.model.specs.Partition.{flushesOf, bufferOf}
-use Rattle.model.specs.Refusals.{listOverfull, pageOverfull, somePageOverfull, lastFlush}
+use Rattle.model.specs.Answers.{Refusal, unread}
+use Rattle.model.specs.Refusals.{keyOverfull, somePageOverfull, lastFlush}
 use Rattle.model.specs.Put.{due, putChecks}
-use Rattle.partition.specs.Ready.{Storable, Flushable, overfull}
-use Rattle.partition.proofs.Checks.{unrefused, overfull-checks, both-fit, pages-fit}
+use Rattle.model.proofs.Checks.{key-fits, put-12, put-undue, put-12-due, put-last, put-accepted}
+use Rattle.partition.specs.Ready.{Storable, Flushable}
+use Rattle.answers.specs.Told.{asRefusal, ofRefusal}
+use Rattle.put.specs.declared.Plan.{Plan}
 use Rattle.put.specs.declared.Plan.the-variants.{Refused, Store, Flush}
 use Rattle.put.specs.Plans.{planWith, planFor}
 
--- ---- from the tests to the plan
 module _ (g : Geometry) (k : ℕ) (p : List ℕ) where
-  pub over : overfull g k p ≡ true → planFor g k p ≡ Refused 12
-  unfolding planFor putChecks
-  over h = rw (← overfull-checks g k p _, h)
+  -- ---- from the tests to the plan
+  pub over : keyOverfull g k p ≡ true → planFor g k p ≡ Refused (ofRefusal (unread 12))
+  unfolding planFor
+  over h = rw (put-12 g k p h)
 
-  module _ (h : overfull g k p ≡ false) where
+  module _ (h : keyOverfull g k p ≡ false) where
     pub not-due : due g k p ≡ false → planFor g k p ≡ Store
-    unfolding planFor putChecks
-    not-due d = let w = both-fit g k p h in simp (w .0, w .1, d)
+    unfolding planFor
+    not-due d = rw (put-undue g k p h d, d)
 
     module _ (d : due g k p ≡ true) where
-      pub some-over : somePageOverfull g p ≡ true → planFor g k p ≡ Refused 12
-      unfolding planFor putChecks
-      some-over e = let w = both-fit g k p h in simp (w .0, w .1, d, e)
+      pub some-over : somePageOverfull g p ≡ true → planFor g k p ≡ Refused (ofRefusal (unread 12))
+      unfolding planFor
+      some-over e = rw (put-12-due g k p h d e)
 
       module _ (e : somePageOverfull g p ≡ false) where
-        pub last-used : flushesOf p ≡ lastFlush → planFor g k p ≡ Refused 16
-        unfolding planFor putChecks
-        last-used f = let w = both-fit g k p h in simp (w .0, w .1, d, e, eq-eqb (flushesOf p) lastFlush f)
+        pub last-used : flushesOf p ≡ lastFlush → planFor g k p ≡ Refused (ofRefusal (unread 16))
+        unfolding planFor
+        last-used f = rw (put-last g k p h e, d, eq-eqb (flushesOf p) lastFlush f)
 
         pub flush-first : (flushesOf p ≡ lastFlush → ⊥) → planFor g k p ≡ Flush
-        unfolding planFor putChecks
-        flush-first f = let w = both-fit g k p h in simp (w .0, w .1, d, e, ne-eqb (flushesOf p) lastFlush f)
+        unfolding planFor
+        flush-first f = rw (put-last g k p h e, d, ne-eqb (flushesOf p) lastFlush f)
 
--- ---- from the plan to what the calls need
-with-refused : (o : Option ℕ) (b : Bool) (n : ℕ) → planWith o b ≡ Refused n → o ≡ some n
-with-refused (some m) b n h = cc
-with-refused none false n h = cc
-with-refused none true n h = cc
+  -- ---- what a plan means: which refusal the checks give, or that they give none, and whether a flush is due
+  abbrev pub Means : Plan → Type 0
+  Means (Refused r) = putChecks g k p ≡ some (asRefusal r)
+  Means Store = (putChecks g k p ≡ none) × (due g k p ≡ false)
+  Means Flush = (putChecks g k p ≡ none) × (due g k p ≡ true)
 
-with-store : (o : Option ℕ) (b : Bool) → planWith o b ≡ Store → (o ≡ none) × (b ≡ false)
-with-store (some m) b h = let z : _≡_ {A = ℕ} 0 1 = cc in absurd (omega arith)
-with-store none false h = (refl, refl)
-with-store none true h = let z : _≡_ {A = ℕ} 0 1 = cc in absurd (omega arith)
+  means-with : (o : Option Refusal) (b : Bool) → putChecks g k p ≡ o → due g k p ≡ b → Means (planWith o b)
+  means-with (some r) b e d = e
+  means-with none false e d = (e, d)
+  means-with none true e d = (e, d)
 
-with-flush : (o : Option ℕ) (b : Bool) → planWith o b ≡ Flush → (o ≡ none) × (b ≡ true)
-with-flush (some m) b h = let z : _≡_ {A = ℕ} 0 1 = cc in absurd (omega arith)
-with-flush none false h = let z : _≡_ {A = ℕ} 0 1 = cc in absurd (omega arith)
-with-flush none true h = (refl, refl)
-
-module _ (g : Geometry) (k : ℕ) (p : List ℕ) where
-  pub plan-refused : (n : ℕ) → planFor g k p ≡ Refused n → putChecks g k p ≡ some n
+  pub plan-means : Means (planFor g k p)
   unfolding planFor
-  plan-refused n h = with-refused (putChecks g k p) (due g k p) n h
+  plan-means = means-with (putChecks g k p) (due g k p) refl refl
 
-  pub plan-store : planFor g k p ≡ Store → (putChecks g k p ≡ none) × (due g k p ≡ false)
-  unfolding planFor
-  plan-store h = with-store (putChecks g k p) (due g k p) h
+  -- ---- an accepted put that flushes nothing finds room, and one that flushes can be flushed
+  module _ (h : putChecks g k p ≡ none) where
+    pub storable : due g k p ≡ false → Storable g k p
+    unfolding due
+    storable d =
+        let w = put-accepted g k p h in
+        record {
+          fits = w .0;
+          room = λ n. let free = eqb-false (countOf (bufferOf g p (pageOf g k))) (capacity g) (simp n at d) in omega (arith, key-fits g p k (w .0) .1);
+        }
 
-  pub plan-flush : planFor g k p ≡ Flush → (putChecks g k p ≡ none) × (due g k p ≡ true)
-  unfolding planFor
-  plan-flush h = with-flush (putChecks g k p) (due g k p) h
-
-  -- an accepted put that flushes nothing finds room
-  pub storable : putChecks g k p ≡ none → due g k p ≡ false → Storable g k p
-  unfolding putChecks due
-  storable h d =
-      let w = unrefused (listOverfull g p) 12 _ h in
-      let v = unrefused (pageOverfull g p (pageOf g k)) 12 _ (w .1) in
-      let fits : countOf (bufferOf g p (pageOf g k)) ≤ capacity g = ltb-false _ _ (v .0) in
-      record {
-        listFits = ltb-false _ _ (w .0);
-        pageFits = fits;
-        room = λ n. let free = eqb-false (countOf (bufferOf g p (pageOf g k))) (capacity g) (simp n at d) in omega arith;
-      }
-
-  -- an accepted put that flushes can be flushed
-  pub flushable : (t : ℕ) → t < partitions g → flushesOf p ≤ lastFlush → putChecks g k p ≡ none → due g k p ≡ true → Flushable g t p
-  unfolding putChecks
-  flushable t below small h d =
-      let w = unrefused (listOverfull g p) 12 _ h in
-      let v = unrefused (pageOverfull g p (pageOf g k)) 12 _ (w .1) in
-      let u = unrefused (due g k p && somePageOverfull g p) 12 _ (v .1) in
-      let s = unrefused (due g k p && eqb (flushesOf p) lastFlush) 16 none (u .1) in
-      let last = eqb-false (flushesOf p) lastFlush (simp d at (s .0)) in
-      record {
-        below = below;
-        listFits = ltb-false _ _ (w .0);
-        pagesFit = pages-fit g p (simp d at (u .0));
-        numberLeft = omega arith;
-      }
+    pub flushable : (t : ℕ) → t < partitions g → flushesOf p ≤ lastFlush → due g k p ≡ true → Flushable g t p
+    flushable t below small d =
+        let w = put-accepted g k p h in
+        let other = eqb-false (flushesOf p) lastFlush (rw d at (w .2)) in
+        record { below = below; head = key-fits g p k (w .0) .0; pages = rw d at (w .1); number = omega arith }

@@ -1,6 +1,11 @@
 -- The search through the filters gives the stamp, and the head's count tells whether a place is left.
-use mathlib.Core.Path.{sym, _∙_, ap}
+use mathlib.Core.Option.{some}
+use mathlib.Core.Path.{_≡_, sym, _∙_, ap}
+use Rattle.model.specs.Del.{stampFor}
+use Rattle.head.proofs.Fields.{listed-is}
+use Rattle.answers.specs.Told.{ofRefusal}
 use Rattle.partition.proofs.Inside.{list-inside}
+use Rattle.del.specs.declared.Plan.{Plan}
 use Rattle.del.specs.Plans.{stamp}
 use Rattle.del.proofs.Planning.{nowhere, no-place, a-place}
 use native.Mathlib.Omega.{arith}
@@ -8,14 +13,18 @@ use borrow.Author.Needs.{needs}
 use Rattle.del.proofs.plan_listing.Statement.{statement}
 use Rattle.del.proofs.plan_listing.Tie as tie
 
+-- the batch that was found is the stamp
+stamped : (c : tie.After-read) → let a = c .before .before .before .before .before .before .args in stampFor (a .g) (a .key) (a .part .now) ≡ some (c .before .before .n .given .0 .0)
+stamped c = sym (c .before .before .before .before .stamp-for .ensures) ∙ ap stamp (c .before .before .n .given .1)
+
 returns : tie.Need-returns
-returns c = sym (no-place _ _ _ _ (sym (c .before .before .before .before .before .before .stamp-for .ensures) ∙ ap stamp (c .before .before .before .before .n .given .1)) (omega arith))
+returns c = ap (λ r. Plan.Refused (ofRefusal r)) (c .unread .ensures) ∙ sym (no-place _ _ _ _ (stamped (c .before .before .before .before)) (omega (arith, listed-is (c .before .before .before .before .read .ensures))))
 
 returns-2 : tie.Need-returns-2
-returns-2 c = sym (a-place _ _ _ _ (sym (c .before .before .before .before .before .before .stamp-for .ensures) ∙ ap stamp (c .before .before .before .before .n .given .1)) (omega arith))
+returns-2 c = sym (a-place _ _ _ _ (stamped (c .before .before .before)) (omega (arith, listed-is (c .before .before .before .read .ensures))))
 
 returns-3 : tie.Need-returns-3
 returns-3 c = sym (nowhere _ _ _ (sym (c .before .before .stamp-for .ensures) ∙ ap stamp (c .enum-told .given .1)))
 
 pub plan-listing-spec : {M : Type 1} → statement M
-plan-listing-spec = tie.close (tie.spec (λ c κs. search needs) (λ c. search needs) (λ c κs. omega (arith, list-inside _ _ (c .before .before .before .before .before .pre))) returns (λ c. search needs) returns-2 returns-3)
+plan-listing-spec = tie.close (tie.spec (λ c κs. search needs) (λ c. search needs) (λ c κs. omega (arith, list-inside _ _ (c .before .before .before .before .before .pre .0))) (λ c κs. search needs) returns (λ c. search needs) returns-2 returns-3)

@@ -1,55 +1,51 @@
 -- The stamp is at all times that of the batches from n on.
 use Prim.Native.Nat.{_+_, _≤_}
 use mathlib.Core.Path.{_≡_, sym, _∙_, ap}
-use Rattle.model.specs.Keys.{mixed}
-use Rattle.model.specs.Filter.{passes}
-use Rattle.model.specs.Partition.{slot, filterOf, passingFrom, passing}
+use Rattle.model.specs.Partition.{live, slot, batchPasses, passingFrom}
 use Rattle.model.specs.Del.{youngest, stampFor}
 use Rattle.model.proofs.Sizes.{sizes, slot-lt}
+use Rattle.model.proofs.Heads.{head-fits}
+use Rattle.model.proofs.Passing.{passing-from, batch-asked, pass-take, pass-skip, pass-end}
+use Rattle.head.proofs.Fields.{flushes-is}
 use Rattle.partition.proofs.Inside.{list-inside}
-use Rattle.partition.proofs.Passing.{slot-after, filter-inside, pass-take, pass-skip, pass-end}
+use Rattle.partition.proofs.Slots.{slot-after}
 use native.Mathlib.Omega.{arith}
 use borrow.Author.Needs.{needs}
 use Rattle.del.proofs.stamp_for.Statement.{statement}
 use Rattle.del.proofs.stamp_for.Tie as tie
 
 abbrev Inv-loop : tie.InvT-loop
-Inv-loop part g key x n₀ j₀ left₀ n j left = (left ≤ n) × (stampFor g key part ≡ youngest (passingFrom g key part left n)) × (j ≡ slot g (n + 1))
+Inv-loop part g key x n₀ j₀ count₀ n j count = (count ≤ n) × (stampFor g key part ≡ youngest (passingFrom g key part count n)) × (j ≡ slot g (n + 1))
 
 abbrev μ-loop : tie.MeasureT-loop
-μ-loop part g key x n₀ j₀ left₀ n j left = left
-
-u32-at-requires : tie.Need-u32-at-requires Inv-loop μ-loop
-u32-at-requires c κs = omega (arith, list-inside _ _ (c .before .before .pre))
+μ-loop part g key x n₀ j₀ count₀ n j count = count
 
 loop-holds : tie.Need-loop-holds Inv-loop μ-loop
-unfolding passing
-loop-holds c = (omega arith, rw (c .live-count .ensures, c .before .before .u32-at .ensures), slot-after _ _)
+loop-holds c =
+    let s = c .before .before .before .before .before in
+    let h = c .before .before .read .ensures in
+    let count : c .live .result ≡ live (s .args .g) _ = rw h at (c .live .ensures) in
+    (omega (arith, count, flushes-is h, head-fits _ _ (s .pre .1) .flushed), ap youngest (passing-from _ _ _) ∙ rw (count, flushes-is h), slot-after _ _)
 
 -- the slot is that of the turn's batch
-slotted : (c : tie.After-slot-before Inv-loop μ-loop) → let l = c .before .before in c .slot-before .result ≡ slot (l .before .before .before .before .before .before .args .g) (l .loop .n)
-slotted c = let l = c .before .before in c .slot-before .ensures (l .loop .n) (omega arith) (l .loop .inv .2)
+slotted : (c : tie.After-slot-before Inv-loop μ-loop) → c .slot-before .result ≡ slot (c .before .before .before .before .before .before .before .before .args .g) (c .before .before .loop .n)
+slotted c = c .slot-before .ensures (c .before .before .loop .n) (omega arith) (c .before .before .loop .inv .2)
 
-filter-at-requires : tie.Need-filter-at-requires Inv-loop μ-loop
-filter-at-requires c κs = let ok = c .before .before .before .before .before .before .before .before .pre .fine in (ok, omega (arith, slot-lt _ ok (c .before .before .loop .n), slotted c))
-
-has-requires : tie.Need-has-requires Inv-loop μ-loop
-has-requires c κs = let w = c .before .before .before .before .before .before .before .before .before .pre in (w .fine, rw (c .filter-at .ensures, slotted (c .before)) (filter-inside _ _ w _))
+passes-requires : tie.Need-passes-requires Inv-loop μ-loop
+passes-requires c κs = let w = c .before .before .before .before .before .before .before .before .pre .0 in (w .fine, (omega (arith, slot-lt _ (w .fine) (c .before .before .loop .n), slotted c), w .long))
 
 -- what the test says
-tested : (c : tie.After-has Inv-loop μ-loop) → let l = c .before .before .before .before in let a = l .before .before .before .before .before .before .args in c .has .result ≡ passes (a .g) (mixed (a .key)) (filterOf (a .g) (slot (a .g) (l .loop .n)) (a .part .now))
-tested c = let l = c .before .before .before .before in rw (c .has .ensures, c .before .filter-at .ensures, slotted (c .before .before), l .before .before .before .before .mix .ensures)
+tested : (c : tie.After-passes Inv-loop μ-loop) → let l = c .before .before .before in let a = l .before .before .before .before .before .before .args in c .passes .result ≡ batchPasses (a .g) (a .key) (a .part .now) (l .loop .n)
+tested c = c .passes .ensures ∙ rw (slotted (c .before), c .before .before .before .before .before .before .before .mix .ensures) (sym (batch-asked _ _ _ _))
 
 returns : tie.Need-returns Inv-loop μ-loop
-returns c = sym (c .before .before .before .before .before .loop .inv .1 ∙ ap youngest (pass-take _ _ _ _ _ (omega arith) (sym (tested (c .before)) ∙ c .if1 .taken)))
+returns c = sym (c .before .before .before .before .loop .inv .1 ∙ ap youngest (pass-take _ _ _ _ _ (omega arith) (sym (tested (c .before)) ∙ c .if1 .taken)))
 
 loop-again : tie.Need-loop-again Inv-loop μ-loop
-loop-again c =
-    let l = c .before .before .before .before .before in
-    (omega arith, l .loop .inv .1 ∙ ap youngest (pass-skip _ _ _ _ _ (omega arith) (sym (tested (c .before)) ∙ c .if1 .left)), slotted (c .before .before .before) ∙ slot-after _ _)
+loop-again c = (omega arith, c .before .before .before .before .loop .inv .1 ∙ ap youngest (pass-skip _ _ _ _ _ (omega arith) (sym (tested (c .before)) ∙ c .if1 .left)), slotted (c .before .before) ∙ slot-after _ _)
 
 returns-2 : tie.Need-returns-2 Inv-loop μ-loop
 returns-2 c = sym (c .before .loop .inv .1 ∙ ap youngest (pass-end _ _ _ _ _ (omega arith)))
 
 pub stamp-for-spec : {M : Type 1} → statement M
-stamp-for-spec = tie.close (tie.spec Inv-loop μ-loop (λ c κs. search needs) u32-at-requires (λ c. let z = sizes _ (c .before .before .before .before .pre .fine) in omega arith) (λ c κs. search needs) loop-holds (λ c κs. c .before .before .before .before .before .before .before .pre .fine) filter-at-requires has-requires returns (λ c. omega arith) (λ c. omega arith) (λ c. omega arith) loop-again returns-2)
+stamp-for-spec = tie.close (tie.spec Inv-loop μ-loop (λ c κs. search needs) (λ c κs. omega (arith, list-inside _ _ (c .before .before .pre .0))) (λ c. let z = sizes _ (c .before .before .before .before .pre .0 .fine) in omega arith) (λ c κs. rw (c .before .read .ensures) (c .before .before .before .before .pre .1)) loop-holds (λ c κs. c .before .before .before .before .before .before .before .pre .0 .fine) passes-requires returns (λ c. omega arith) (λ c. omega arith) (λ c. omega arith) loop-again returns-2)

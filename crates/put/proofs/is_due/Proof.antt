@@ -1,48 +1,46 @@
 -- The count of the key's page and its search are the two halves of the definition.
 use mathlib.Core.Path.{_≡_, sym, _∙_}
 use mathlib.Core.Bool.{and-false}
-use native.Mathlib.Omega.{arith}
 use borrow.Author.Needs.{needs}
 use borrow.Author.Tests.{eq-eqb, ne-eqb}
+use Rattle.model.specs.Keys.{pageOf}
+use Rattle.model.specs.Page.{countOf}
+use Rattle.model.specs.Partition.{bufferOf}
 use Rattle.model.specs.Put.{due}
 use Rattle.model.proofs.Sizes.{page-of-lt}
+use Rattle.model.proofs.Checks.{key-fits}
 use Rattle.records.proofs.Telling.{told-at}
 use Rattle.put.proofs.is_due.Statement.{statement}
 use Rattle.put.proofs.is_due.Tie as tie
 
-buffer-count-requires : tie.Need-buffer-count-requires
-buffer-count-requires c κs = let s = c .before .before in rw (c .page-of .ensures) (s .pre .0, page-of-lt _ (s .pre .0 .fine) _)
+count-requires : tie.Need-count-requires
+count-requires c κs = let s = c .before .before in rw (c .page-of .ensures) (s .pre .0, page-of-lt _ (s .pre .0 .fine) _)
 
-find-buffered-requires : tie.Need-find-buffered-requires
-find-buffered-requires c κs =
-    let p = c .before .before .before in
-    let s = p .before .before in
-    rw (p .page-of .ensures) (s .pre .0, (page-of-lt _ (s .pre .0 .fine) _, s .pre .1 .pageFits))
+find-requires : tie.Need-find-requires
+find-requires c κs = let s = c .before .before .before .before .before in rw (c .before .before .before .page-of .ensures) (s .pre .0, (page-of-lt _ (s .pre .0 .fine) _, key-fits _ _ _ (s .pre .1) .1))
+
+-- the count is that of the key's page
+counted : (c : tie.After-count) → let a = c .before .before .before .args in c .count .result ≡ countOf (bufferOf (a .g) (a .part .now) (pageOf (a .g) (a .key)))
+counted c = rw (c .before .page-of .ensures) at (c .count .ensures)
 
 returns : tie.Need-returns
 unfolding due
 returns c =
-    let b = c .before in
-    let n = rw (b .before .before .page-of .ensures) at (b .before .buffer-count .ensures) in
-    let d = ne-eqb _ _ (λ e. c .if1 .taken (n ∙ e ∙ sym (b .page-capacity .ensures))) in
+    let d = ne-eqb _ _ (λ e. c .if1 .taken (counted (c .before .before) ∙ e ∙ sym (c .before .page-capacity .ensures))) in
     simp (d, and-false)
 
 returns-2 : tie.Need-returns-2
 unfolding due
 returns-2 c =
-    let f = c .before .before in
-    let e = rw (f .before .before .before .before .page-of .ensures) at (told-at (f .find-buffered .ensures) (c .enum-told .given .1)) in
+    let e = rw (c .before .before .before .before .before .before .page-of .ensures) at (told-at (c .before .before .find .ensures) (c .enum-told .given .1)) in
     simp e
 
 returns-3 : tie.Need-returns-3
 unfolding due
 returns-3 c =
-    let f = c .before .before in
-    let b = f .before .before in
-    let e = rw (b .before .before .page-of .ensures) at (told-at (f .find-buffered .ensures) (c .enum-told2 .given .1)) in
-    let n = rw (b .before .before .page-of .ensures) at (b .before .buffer-count .ensures) in
-    let d = eq-eqb _ _ (sym n ∙ f .before .if1 .left ∙ b .page-capacity .ensures) in
+    let e = rw (c .before .before .before .before .before .before .page-of .ensures) at (told-at (c .before .before .find .ensures) (c .enum-told2 .given .1)) in
+    let d = eq-eqb _ _ (sym (counted (c .before .before .before .before .before)) ∙ c .before .before .before .if1 .left ∙ c .before .before .before .before .page-capacity .ensures) in
     simp (e, d)
 
 pub is-due-spec : {M : Type 1} → statement M
-is-due-spec = tie.close (tie.spec (λ c κs. search needs) buffer-count-requires (λ c κs. search needs) returns find-buffered-requires (λ c. search needs) (λ c. search needs) returns-2 returns-3)
+is-due-spec = tie.close (tie.spec (λ c κs. search needs) count-requires (λ c κs. search needs) returns find-requires (λ c. search needs) (λ c. search needs) returns-2 returns-3)

@@ -1,14 +1,15 @@
--- The key's partition is lent as a part of memory, and comes back with the key's value.
+-- The key's partition is lent as a part of memory, and comes back without the key in its buffer and with the key listed.
 use mathlib.Core.Path.{_∙_}
 use native.Mathlib.Omega.{arith}
 use borrow.Author.Needs.{needs}
 use Rattle.model.specs.Keys.{partitionOf}
-use Rattle.model.specs.Put.{unlisted, buffered}
-use Rattle.model.proofs.Lengths.{length-unlisted, length-buffered}
+use Rattle.model.specs.Del.{unbuffered, listedWith}
+use Rattle.model.proofs.Lengths.{length-unbuffered, length-listedWith}
 use Rattle.model.proofs.Sizes.{partition-of-lt}
 use Rattle.partition.proofs.Lending.{Lent, lends-key}
-use Rattle.put.proofs.apply_at.Statement.{statement}
-use Rattle.put.proofs.apply_at.Tie as tie
+use Rattle.del.specs.Plans.{stamp}
+use Rattle.del.proofs.apply_at.Statement.{statement}
+use Rattle.del.proofs.apply_at.Tie as tie
 
 lent : (c : tie.After-partition-size) → let a = c .before .before .before .before .args in Lent (a .g) (partitionOf (a .g) (a .key)) (a .memory .now) (c .before .partition-at .result) (c .partition-size .result)
 lent c = let s = c .before .before .before .before in lends-key _ _ (s .pre .0) (s .pre .1 .0) (s .args .key) (omega arith) _ _ _ (c .before .before .partition-of .ensures) (c .before .partition-at .ensures) (c .partition-size .ensures)
@@ -22,7 +23,7 @@ apply-requires c κs = let l = lent (c .before) in (l .whole, rw (l .own) (c .be
 returns : tie.Need-returns
 returns c =
     let a = c .before .before .before .before .before .before .before .before .args in
-    lent (c .before .before .before .before) .back (λ p. unlisted (a .g) (a .key) (buffered (a .g) (a .key) (a .value) p)) (λ p. length-unlisted (a .g) (a .key) (buffered (a .g) (a .key) (a .value) p) ∙ length-buffered (a .g) (a .key) (a .value) p) _ (c .before .before .apply .ensures)
+    lent (c .before .before .before .before) .back (λ p. listedWith (stamp (a .youngest)) (a .g) (a .key) (unbuffered (a .g) (a .key) p)) (λ p. length-listedWith (stamp (a .youngest)) (a .g) (a .key) (unbuffered (a .g) (a .key) p) ∙ length-unbuffered (a .g) (a .key) p) _ (c .before .before .apply .ensures)
 
 pub apply-at-spec : {M : Type 1} → statement M
 apply-at-spec = tie.close (tie.spec (λ c κs. search needs) partition-at-requires (λ c κs. search needs) (λ c. omega (arith, lent c .inside)) (λ c. search needs) (λ c. search needs) (λ c. omega (arith, lent c .inside)) apply-requires (λ c. search needs) returns)
