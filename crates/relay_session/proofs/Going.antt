@@ -7,15 +7,15 @@ use lib.ListN.{length, take, drop, getD, length-drop}
 use lib.Seq.{take-all, take-add, take-at, length-take-le, getD-drop}
 use Rattle.model.specs.Bytes.{mid}
 use Rattle.model.specs.Answers.{Areas}
-use Rattle.model.specs.Session.{lineLeaves, linesOf, printed, left}
+use Rattle.model.specs.Session.{lineLeaves, linesOf, linesPrint, linesLeave}
 use Rattle.session.specs.Lines.{Unended}
 use Rattle.session.specs.Promises.{room, Ran, Takes}
 use Rattle.session.proofs.Lines.{lines-last, whole-none, whole-more}
-use Rattle.session.proofs.Pieces.{left-pieces}
+use Rattle.session.proofs.Pieces.{leave-pieces}
 use Rattle.relay_session.specs.Steps.{Went}
 
 pub went-none : (xs : List ℕ) (a : Areas) → Went 0 xs a a
-unfolding left linesOf
+unfolding linesLeave linesOf
 went-none xs a = record { within = omega arith; whole = whole-none; leaves = refl }
 
 module _ (xs : List ℕ) (taken : ℕ) (inside : taken ≤ length xs) where
@@ -36,7 +36,7 @@ module _ (xs : List ℕ) (taken : ℕ) (inside : taken ≤ length xs) where
         record {
           within = taken-within;
           whole = rw e (whole-more (take taken xs) (take r rest) (w .whole) (t .whole));
-          leaves = rw (e, left-pieces (take taken xs) (w .whole) (take r rest) a, ← w .leaves) (s .leaves);
+          leaves = rw (e, leave-pieces (take taken xs) (w .whole) (take r rest) a, ← w .leaves) (s .leaves);
         }
 
     pub went-same : {a a₁ a₂ : Areas} {o′ : List ℕ} → r ≡ 0 → Went taken xs a a₁ → Ran (take r rest) a₁ o n o′ a₂ → Went taken xs a a₂
@@ -44,7 +44,7 @@ module _ (xs : List ℕ) (taken : ℕ) (inside : taken ≤ length xs) where
 
     -- a turn that takes nothing, though there is room, finds no end of a line
     pub went-all : {a₁ a₂ : Areas} {o′ : List ℕ} → r ≡ 0 → room ≤ length o → Ran (take r rest) a₁ o n o′ a₂ → Unended taken xs
-    unfolding printed linesOf
+    unfolding linesPrint linesOf
     went-all z l s i g k e =
         let none : n ≡ 0 = (rw z at (s .prints .place)) in
         let u : Unended 0 rest = rw z at (t .all (omega arith)) in
@@ -58,11 +58,11 @@ pub front : (n : ℕ) (xs ys : List ℕ) → n < length xs → take n (take n xs
 front n xs ys l = take-at (take n xs) ys n (length-take-le n xs (omega arith))
 
 -- ---- the last line
-pub leaves-none : (line : List ℕ) (a : Areas) → length line ≡ 0 → a ≡ left (linesOf line) a
-unfolding left linesOf
+pub leaves-none : (line : List ℕ) (a : Areas) → length line ≡ 0 → a ≡ linesLeave (linesOf line) a
+unfolding linesLeave linesOf
 leaves-none [] a e = refl
 leaves-none (x ∷ xs) a e = absurd (omega arith)
 
-pub leaves-last : (line : List ℕ) (a a′ : Areas) → Unended 0 line → 0 < length line → a′ ≡ lineLeaves line a → a′ ≡ left (linesOf line) a
-unfolding left
+pub leaves-last : (line : List ℕ) (a a′ : Areas) → Unended 0 line → 0 < length line → a′ ≡ lineLeaves line a → a′ ≡ linesLeave (linesOf line) a
+unfolding linesLeave
 leaves-last line a a′ h l e = rw (lines-last line l h) e

@@ -5,7 +5,7 @@ use mathlib.Core.Path.{_≡_}
 use lib.IntN.{ℤ, pos, negsuc}
 use lib.ListN.{length, take, drop}
 use Rattle.model.specs.Answers.{Areas}
-use Rattle.model.specs.Session.{linesOf, left}
+use Rattle.model.specs.Session.{linesOf, linesLeave}
 use Rattle.session.specs.Lines.{Unended, longest, Whole}
 use Rattle.relay_session.specs.declared.Rest.{Rest}
 use Rattle.relay_session.specs.declared.Step.{Step}
@@ -16,7 +16,7 @@ use Rattle.relay_session.specs.declared.Next.{Next}
 pub record Went (taken : ℕ) (text : List ℕ) (a a′ : Areas) : Type 0 where
   pub within : taken ≤ length text
   pub whole : Whole (take taken text)
-  pub leaves : a′ ≡ left (linesOf (take taken text)) a
+  pub leaves : a′ ≡ linesLeave (linesOf (take taken text)) a
 
 -- a write failed: some whole lines at the start of the text were run
 pub record WentPartly (text : List ℕ) (a a′ : Areas) : Type 0 where
@@ -60,7 +60,7 @@ RunsTo end Next.Failed input a a′ = WentPartly (take end input) a a′
 -- what is made of it, behind the bytes held: nothing after a failure; at the end of input, what is held is the last line; bytes that came are run
 abbrev pub MadeOf : Got → Next → ℕ → List ℕ → Areas → Areas → Type 0
 MadeOf Got.Failure r held input a a′ = (r ≡ Next.Failed) × (a′ ≡ a)
-MadeOf Got.End r held input a a′ = (r ≡ Next.Ended) × (a′ ≡ left (linesOf (take held input)) a)
+MadeOf Got.End r held input a a′ = (r ≡ Next.Ended) × (a′ ≡ linesLeave (linesOf (take held input)) a)
 MadeOf (Got.Bytes n) r held input a a′ = RunsTo (held + n) r input a a′
 
 -- no more bytes came than there was room for
@@ -78,4 +78,4 @@ pub record Turned (r : Next) (held : ℕ) (before : List ℕ) (a : Areas) (later
 -- The areas are as the session of some text leaves them. It is what was read or, where a read or a write failed, the lines that were run until then; but no contract can tell it from another text.
 pub record IsSession (a a′ : Areas) : Type 0 where
   pub text : List ℕ
-  pub leaves : a′ ≡ left (linesOf text) a
+  pub leaves : a′ ≡ linesLeave (linesOf text) a

@@ -2,7 +2,7 @@
 ghost use mathlib.Core.Path.{_≡_};
 ghost use Prim.Native.Nat.{_-_, _≤_, _<_};
 ghost use lib.ListN.{length, take};
-ghost use Rattle.model.specs.Session.{linesOf, zeroArea, programAreas, left};
+ghost use Rattle.model.specs.Session.{linesOf, zeroArea, programAreas, linesLeave};
 ghost use Rattle.answers.specs.Performs.{areas};
 ghost use Rattle.session.specs.Lines.{Unended, longest};
 ghost use Rattle.session.specs.Promises.{room};
@@ -69,7 +69,7 @@ fn run_whole(memory: &mut [u8], flash: &mut [u8], input: &[u8], out: &mut [u8]) 
 fn run_last(memory: &mut [u8], flash: &mut [u8], line: &[u8], out: &mut [u8])
     requires { ⌜ room ≤ length (now out) ⌝ }
     requires { ⌜ Unended 0 (now line) ⌝ }
-    ensures { λ _. ⌜ areas (now (memory .exit)) (now (flash .exit)) ≡ left (linesOf (now (line .entry))) (areas (now (memory .entry)) (now (flash .entry))) ⌝ }
+    ensures { λ _. ⌜ areas (now (memory .exit)) (now (flash .exit)) ≡ linesLeave (linesOf (now (line .entry))) (areas (now (memory .entry)) (now (flash .entry))) ⌝ }
 {
     if line.len() == 0 {
         return;

@@ -11,7 +11,7 @@ use borrow.Author.Tests.{ne-eqb}
 use Rattle.model.proofs.Parts.{lt-or-ge}
 use Rattle.model.specs.Text.{text}
 use Rattle.model.specs.Answers.{Areas}
-use Rattle.model.specs.Session.{startedBy, callOf, linePrints, lineLeaves, linesOf, printed, left}
+use Rattle.model.specs.Session.{startedBy, callOf, linePrints, lineLeaves, linesOf, linesPrint, linesLeave}
 use Rattle.session.specs.Lines.{Unended, longest, Same}
 use Rattle.session.proofs.Lines.{unended-rest}
 use Rattle.session.proofs.Longest.{long-says-none}
@@ -37,12 +37,12 @@ lines-on x (y ∷ xs) more h = rw (ne-eqb x 10 (h 0 (omega arith) (omega arith))
 
 -- a line that says no call
 module _ (line : List ℕ) (ls : List (List ℕ)) (a : Areas) (e : callOf line ≡ none) where
-  prints-bad : printed (line ∷ ls) a ≡ text "(bad)\n" ++ printed ls a
-  unfolding printed linePrints lineLeaves
+  prints-bad : linesPrint (line ∷ ls) a ≡ text "(bad)\n" ++ linesPrint ls a
+  unfolding linesPrint linePrints lineLeaves
   prints-bad = rw e
 
-  leaves-bad : left (line ∷ ls) a ≡ left ls a
-  unfolding left lineLeaves
+  leaves-bad : linesLeave (line ∷ ls) a ≡ linesLeave ls a
+  unfolding linesLeave lineLeaves
   leaves-bad = rw e
 
 -- all that a line too long prints and leaves, whatever follows it
@@ -50,11 +50,11 @@ module _ (more : List ℕ) (a : Areas) where
   no-call : (xs : List ℕ) → 138 < length xs → callOf (xs ++ first (linesOf more)) ≡ none
   no-call xs l = long-says-none _ (simp length-append (omega arith))
 
-  long-prints : (xs : List ℕ) → Unended 0 xs → 138 < length xs → printed (linesOf (xs ++ more)) a ≡ text "(bad)\n" ++ printed (others (linesOf more)) a
+  long-prints : (xs : List ℕ) → Unended 0 xs → 138 < length xs → linesPrint (linesOf (xs ++ more)) a ≡ text "(bad)\n" ++ linesPrint (others (linesOf more)) a
   long-prints [] h l = absurd (omega arith)
   long-prints (x ∷ xs) h l = rw (lines-on x xs more h) (prints-bad _ _ a (no-call (x ∷ xs) l))
 
-  long-leaves : (xs : List ℕ) → Unended 0 xs → 138 < length xs → left (linesOf (xs ++ more)) a ≡ left (others (linesOf more)) a
+  long-leaves : (xs : List ℕ) → Unended 0 xs → 138 < length xs → linesLeave (linesOf (xs ++ more)) a ≡ linesLeave (others (linesOf more)) a
   long-leaves [] h l = absurd (omega arith)
   long-leaves (x ∷ xs) h l = rw (lines-on x xs more h) (leaves-bad _ _ a (no-call (x ∷ xs) l))
 

@@ -6,7 +6,7 @@ use mathlib.Core.Path.{_≡_}
 use lib.Dec.{eqb}
 use lib.ListN.{length, getD}
 use Rattle.model.specs.Answers.{Areas}
-use Rattle.model.specs.Session.{linesOf, printed, left}
+use Rattle.model.specs.Session.{linesOf, linesPrint, linesLeave}
 
 -- the byte that ends a line stands nowhere from `at` on
 abbrev pub Unended : ℕ → List ℕ → Type 0
@@ -38,5 +38,5 @@ Whole xs = (more : List ℕ) → linesOf (xs ++ more) ≡ linesOf xs ++ linesOf 
 
 -- ys does what xs does at the end of any text, whatever follows
 pub record Same (xs ys : List ℕ) : Type 0 where
-  pub prints : (more : List ℕ) (a : Areas) → printed (linesOf (ys ++ more)) a ≡ printed (linesOf (xs ++ more)) a
-  pub leaves : (more : List ℕ) (a : Areas) → left (linesOf (ys ++ more)) a ≡ left (linesOf (xs ++ more)) a
+  pub prints : (more : List ℕ) (a : Areas) → linesPrint (linesOf (ys ++ more)) a ≡ linesPrint (linesOf (xs ++ more)) a
+  pub leaves : (more : List ℕ) (a : Areas) → linesLeave (linesOf (ys ++ more)) a ≡ linesLeave (linesOf (xs ++ more)) a

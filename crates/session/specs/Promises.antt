@@ -6,7 +6,7 @@ use mathlib.Core.Path.{_≡_}
 use lib.Dec.{leb}
 use lib.ListN.{length, take}
 use Rattle.model.specs.Answers.{Areas}
-use Rattle.model.specs.Session.{linePrints, lineLeaves, linesOf, printed, left}
+use Rattle.model.specs.Session.{linePrints, lineLeaves, linesOf, linesPrint, linesLeave}
 use Rattle.printer.specs.Puts.{Puts}
 use Rattle.session.specs.Lines.{Unended, endedLines, Whole}
 use Rattle.session.specs.declared.Printed.{Printed}
@@ -35,8 +35,8 @@ Applied Printed.NoRoom line a at before later a′ = Untouched a at before later
 -- a run over the lines of a text: all that they print stands whole at the start of `later`, its length is n, and they leave a′
 pub record Ran (text : List ℕ) (a : Areas) (before : List ℕ) (n : ℕ) (later : List ℕ) (a′ : Areas) : Type 0 where
   pub fits : n ≤ length before
-  pub prints : Puts (printed (linesOf text) a) 0 before n later
-  pub leaves : a′ ≡ left (linesOf text) a
+  pub prints : Puts (linesPrint (linesOf text) a) 0 before n later
+  pub leaves : a′ ≡ linesLeave (linesOf text) a
 
 -- The bytes of these lines that a run takes, where so many are free for answers: it takes a line, with the byte 10 that ends it, while there is room for one more answer.
 unfoldable pub takenOf : List (List ℕ) → Areas → ℕ → ℕ
