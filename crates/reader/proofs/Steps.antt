@@ -12,7 +12,7 @@ use Rattle.model.specs.Text.{past, Figure, figure}
 use Rattle.model.specs.Calls.{Call}
 use Rattle.model.specs.Session.{then, orElse, atEnd}
 use Rattle.reader.specs.declared.Form.{Form}
-use Rattle.reader.specs.Said.{said}
+use Rattle.reader.specs.Forms.{formCall}
 use Rattle.reader.proofs.Form.{the-type}
 use Rattle.reader.proofs.Reading.{figure-below}
 
@@ -54,10 +54,10 @@ module _ (line : List ℕ) (next : ℕ) where
   end-here (some c) p e l = rw (e, drop-of-length-le line l)
 
 -- ---- the first form that is not Bad
-pub first-said : (f : Form) {o : Option Call} (rest : Option Call) → said f ≡ o → OneOf (0 ∷ 1 ∷ 2 ∷ 3 ∷ 4 ∷ []) (tagOf the-type f) → said f ≡ orElse o rest
-first-said (Form.Format g) rest e h = rw (← e)
-first-said (Form.Put k v) rest e h = rw (← e)
-first-said (Form.Get k) rest e h = rw (← e)
-first-said (Form.Del k) rest e h = rw (← e)
-first-said (Form.Flush t) rest e h = rw (← e)
-first-said Form.Bad rest e h = absurd (miss (0 ∷ 1 ∷ 2 ∷ 3 ∷ 4 ∷ []) 5 tt h)
+pub first-call : (f : Form) {o : Option Call} (rest : Option Call) → formCall f ≡ o → OneOf (0 ∷ 1 ∷ 2 ∷ 3 ∷ 4 ∷ []) (tagOf the-type f) → formCall f ≡ orElse o rest
+first-call (Form.Format g) rest e h = rw (← e)
+first-call (Form.Put k v) rest e h = rw (← e)
+first-call (Form.Get k) rest e h = rw (← e)
+first-call (Form.Del k) rest e h = rw (← e)
+first-call (Form.Flush t) rest e h = rw (← e)
+first-call Form.Bad rest e h = absurd (miss (0 ∷ 1 ∷ 2 ∷ 3 ∷ 4 ∷ []) 5 tt h)

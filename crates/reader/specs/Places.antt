@@ -8,7 +8,7 @@ use Rattle.model.specs.Geometry.{between}
 use Rattle.model.specs.Text.{past, Figure, figure}
 use Rattle.model.specs.Calls.{Call}
 use Rattle.model.specs.Session.{then, narrow}
-use Rattle.reader.specs.declared.Place.{Place}
+use Rattle.reader.specs.declared.Behind.{Behind}
 use Rattle.reader.specs.declared.Number.{Number}
 use Rattle.reader.specs.declared.Narrow.{Narrow}
 use Rattle.reader.specs.declared.Three.{Three}
@@ -17,9 +17,9 @@ use Rattle.reader.specs.declared.Three.{Three}
 unfoldable pub figureAt : List ℕ → ℕ → Bool
 figureAt line i = between 48 57 (getD line i 0)
 
-abbrev pub placeIn : List ℕ → Place → Option (List ℕ)
-placeIn line (Place.At next) = some (drop next line)
-placeIn line Place.Nowhere = none
+abbrev pub behindIn : List ℕ → Behind → Option (List ℕ)
+behindIn line (Behind.At next) = some (drop next line)
+behindIn line Behind.Nowhere = none
 
 abbrev pub numberIn : List ℕ → Number → Option Figure
 numberIn line (Number.Read n next) = some (record { value = n; rest = drop next line })

@@ -4,28 +4,28 @@ ghost use Prim.Native.Nat.{_+_};
 ghost use lib.ListN.{drop};
 ghost use Rattle.model.specs.Text.{past, leading, isPlain, figure};
 ghost use Rattle.model.specs.Session.{narrow};
-ghost use Rattle.reader.specs.Places.{figureAt, placeIn, numberIn, narrowIn, figurePast};
+ghost use Rattle.reader.specs.Places.{figureAt, behindIn, numberIn, narrowIn, figurePast};
+use crate::Behind;
 use crate::Narrow;
 use crate::Number;
-use crate::Place;
 
 // The place behind `text`, where that stands in the line from `at` on.
-pub fn text_past(line: &[u8], at: usize, text: &[u8]) -> Place
-    ensures { λ r. ⌜ placeIn (now (line .entry)) r ≡ past (now (text .entry)) (drop at (now (line .entry))) ⌝ }
+pub fn text_past(line: &[u8], at: usize, text: &[u8]) -> Behind
+    ensures { λ r. ⌜ behindIn (now (line .entry)) r ≡ past (now (text .entry)) (drop at (now (line .entry))) ⌝ }
 {
     let mut i = 0;
     let mut next = at;
     while i < text.len() {
         if next >= line.len() {
-            return Place::Nowhere;
+            return Behind::Nowhere;
         }
         if line[next] != text[i] {
-            return Place::Nowhere;
+            return Behind::Nowhere;
         }
         i += 1;
         next += 1;
     }
-    Place::At(next)
+    Behind::At(next)
 }
 
 // Does a figure stand at `i`?
@@ -85,7 +85,7 @@ fn number(line: &[u8], at: usize, most: u64) -> Number
 pub fn number_past(line: &[u8], at: usize, text: &[u8], most: u64) -> Number
     ensures { λ r. ⌜ numberIn (now (line .entry)) r ≡ figurePast (now (text .entry)) (most + 1) (drop at (now (line .entry))) ⌝ }
 {
-    let Place::At(next) = text_past(line, at, text) else {
+    let Behind::At(next) = text_past(line, at, text) else {
         return Number::Bad;
     };
     number(line, next, most)

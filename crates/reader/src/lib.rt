@@ -6,7 +6,7 @@ use model::Geometry;
 pub use read::read_line;
 
 // The place behind a fixed text that stands in a line.
-pub enum Place {
+pub enum Behind {
     At(usize),
     Nowhere,
 }

@@ -1,5 +1,5 @@
 -- The form says the line's call; each case is that call and the text of its answer.
-use Rattle.reader.specs.Said.{said}
+use Rattle.reader.specs.Forms.{formCall}
 use Rattle.reader.proofs.Steps.{known}
 use Rattle.session.proofs.Applying.{calls, bad}
 use borrow.Author.Needs.{needs}
@@ -7,22 +7,22 @@ use Rattle.session.proofs.perform.Statement.{statement}
 use Rattle.session.proofs.perform.Tie as tie
 
 returns : tie.Need-returns
-returns c = calls (c .before .before .before .before .before .before .before .before .before .before .before .before .before .before .before .before .before .pre) (known said (c .before .before .before .before .before .before .before .before .before .before .before .before .read-line .ensures) (c .before .before .before .before .before .before .before .before .before .before .g .given .1)) (c .before .before .before .before .before .format .ensures) (c .before .before .write-written .ensures)
+returns c = calls (c .before .before .before .before .before .before .before .before .before .before .before .before .before .before .before .before .before .pre) (known formCall (c .before .before .before .before .before .before .before .before .before .before .before .before .read-line .ensures) (c .before .before .before .before .before .before .before .before .before .before .g .given .1)) (c .before .before .before .before .before .format .ensures) (c .before .before .write-written .ensures)
 
 returns-2 : tie.Need-returns-2
-returns-2 c = calls (c .before .before .before .before .before .before .before .before .before .before .before .before .before .before .before .before .before .before .before .pre) (known said (c .before .before .before .before .before .before .before .before .before .before .before .before .before .before .read-line .ensures) (c .before .before .before .before .before .before .before .before .before .before .before .before .key .given .1)) (c .before .before .before .before .before .before .before .put .ensures) (c .before .before .write-written2 .ensures)
+returns-2 c = calls (c .before .before .before .before .before .before .before .before .before .before .before .before .before .before .before .before .before .before .before .pre) (known formCall (c .before .before .before .before .before .before .before .before .before .before .before .before .before .before .read-line .ensures) (c .before .before .before .before .before .before .before .before .before .before .before .before .key .given .1)) (c .before .before .before .before .before .before .before .put .ensures) (c .before .before .write-written2 .ensures)
 
 returns-3 : tie.Need-returns-3
-returns-3 c = calls (c .before .before .before .before .before .before .before .before .before .before .before .before .before .before .before .pre) (known said (c .before .before .before .before .before .before .before .before .before .before .read-line .ensures) (c .before .before .before .before .before .before .before .before .key2 .given .1)) (c .before .before .before .get .ensures) (c .before .before .write-answer .ensures)
+returns-3 c = calls (c .before .before .before .before .before .before .before .before .before .before .before .before .before .before .before .pre) (known formCall (c .before .before .before .before .before .before .before .before .before .before .read-line .ensures) (c .before .before .before .before .before .before .before .before .key2 .given .1)) (c .before .before .before .get .ensures) (c .before .before .write-answer .ensures)
 
 returns-4 : tie.Need-returns-4
-returns-4 c = calls (c .before .before .before .before .before .before .before .before .before .before .before .before .before .before .before .before .before .pre) (known said (c .before .before .before .before .before .before .before .before .before .before .before .before .read-line .ensures) (c .before .before .before .before .before .before .before .before .before .before .key3 .given .1)) (c .before .before .before .before .before .del .ensures) (c .before .before .write-written3 .ensures)
+returns-4 c = calls (c .before .before .before .before .before .before .before .before .before .before .before .before .before .before .before .before .before .pre) (known formCall (c .before .before .before .before .before .before .before .before .before .before .before .before .read-line .ensures) (c .before .before .before .before .before .before .before .before .before .before .key3 .given .1)) (c .before .before .before .before .before .del .ensures) (c .before .before .write-written3 .ensures)
 
 returns-5 : tie.Need-returns-5
-returns-5 c = calls (c .before .before .before .before .before .before .before .before .before .before .before .before .before .before .before .before .before .before .before .pre) (known said (c .before .before .before .before .before .before .before .before .before .before .before .before .before .before .read-line .ensures) (c .before .before .before .before .before .before .before .before .before .before .before .before .partition .given .1)) (c .before .before .before .before .before .before .before .flush .ensures) (c .before .before .write-written4 .ensures)
+returns-5 c = calls (c .before .before .before .before .before .before .before .before .before .before .before .before .before .before .before .before .before .before .before .pre) (known formCall (c .before .before .before .before .before .before .before .before .before .before .before .before .before .before .read-line .ensures) (c .before .before .before .before .before .before .before .before .before .before .before .before .partition .given .1)) (c .before .before .before .before .before .before .before .flush .ensures) (c .before .before .write-written4 .ensures)
 
 returns-6 : tie.Need-returns-6
-returns-6 c = bad (c .before .before .before .before .before .before .before .before .before .before .before .pre) (known said (c .before .before .before .before .before .before .read-line .ensures) (c .before .before .before .before .enum-told .given .1)) (c .before .before .write-bad .ensures)
+returns-6 c = bad (c .before .before .before .before .before .before .before .before .before .before .before .pre) (known formCall (c .before .before .before .before .before .before .read-line .ensures) (c .before .before .before .before .enum-told .given .1)) (c .before .before .write-bad .ensures)
 
 pub perform-spec : {M : Type 1} → statement M
 perform-spec =
