@@ -8,9 +8,9 @@ use lib.Seq.{take-all, take-add, take-at, length-take-le, getD-drop}
 use Rattle.model.specs.Bytes.{mid}
 use Rattle.model.specs.Answers.{Areas}
 use Rattle.model.specs.Session.{lineLeaves, linesOf, linesPrint, linesLeave}
-use Rattle.session.specs.Lines.{Unended}
+use Rattle.lines.specs.Lines.{Unended}
 use Rattle.session.specs.Promises.{room, Ran, Takes}
-use Rattle.session.proofs.Lines.{lines-last, whole-none, whole-more}
+use Rattle.lines.proofs.Lines.{lines-last, whole-none, whole-more}
 use Rattle.session.proofs.Pieces.{leave-pieces}
 use Rattle.relay_session.specs.Steps.{Went}
 

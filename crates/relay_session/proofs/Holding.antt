@@ -6,9 +6,9 @@ use native.Mathlib.Omega.{arith}
 use lib.ListN.{length, take, drop, length-take, length-drop, length-append}
 use lib.Seq.{take-append-le, length-sets, length-take-le}
 use Rattle.printer.specs.Puts.{Puts}
-use Rattle.session.specs.Lines.{Unended, longest, Same}
-use Rattle.session.proofs.Cutting.{unended-take, unended-drop, same-cut}
-use Rattle.session.proofs.Keeping.{stands}
+use Rattle.lines.specs.Lines.{Unended, longest, Same}
+use Rattle.lines.proofs.Cutting.{unended-take, unended-drop, same-cut}
+use Rattle.lines.proofs.Keeping.{stands}
 use Rattle.relay_session.specs.declared.Rest.{Rest}
 use Rattle.relay_session.specs.Steps.{Held, heldBytes, AtStart}
 

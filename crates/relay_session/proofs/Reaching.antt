@@ -7,8 +7,8 @@ use lib.ListN.{length, take, drop, take-append-drop, length-take}
 use lib.Seq.{take-take}
 use Rattle.model.specs.Answers.{Areas}
 use Rattle.model.specs.Session.{linesOf, linesLeave}
-use Rattle.session.specs.Lines.{Whole, longest}
-use Rattle.session.proofs.Lines.{whole-none, whole-more}
+use Rattle.lines.specs.Lines.{Whole, longest}
+use Rattle.lines.proofs.Lines.{whole-none, whole-more}
 use Rattle.session.proofs.Pieces.{leave-pieces}
 use Rattle.relay_session.specs.declared.Rest.{Rest}
 use Rattle.relay_session.specs.declared.Got.{Got}

@@ -6,7 +6,7 @@ use lib.IntN.{ℤ, pos, negsuc}
 use lib.ListN.{length, take, drop}
 use Rattle.model.specs.Answers.{Areas}
 use Rattle.model.specs.Session.{linesOf, linesLeave}
-use Rattle.session.specs.Lines.{Unended, longest, Whole}
+use Rattle.lines.specs.Lines.{Unended, longest, Whole}
 use Rattle.relay_session.specs.declared.Rest.{Rest}
 use Rattle.relay_session.specs.declared.Step.{Step}
 use Rattle.relay_session.specs.declared.Got.{Got}

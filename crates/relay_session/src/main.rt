@@ -4,7 +4,7 @@ ghost use Prim.Native.Nat.{_-_, _≤_, _<_};
 ghost use lib.ListN.{length, take};
 ghost use Rattle.model.specs.Session.{linesOf, zeroArea, programAreas, linesLeave};
 ghost use Rattle.answers.specs.Performs.{areas};
-ghost use Rattle.session.specs.Lines.{Unended, longest};
+ghost use Rattle.lines.specs.Lines.{Unended, longest};
 ghost use Rattle.session.specs.Promises.{room};
 ghost use Rattle.relay_session.specs.Steps.{WentOn, Held, AtStart, gotOf, MadeOf, Within, Turned, IsSession};
 use libc::STDIN_FILENO;
@@ -86,7 +86,7 @@ fn hold(input: &mut [u8], rest: Rest) -> usize
     ensures { λ r. ⌜ AtStart r rest (now (input .entry)) (now (input .exit)) ⌝ }
 {
     let end = rest.end;
-    session::keep_rest(&mut input[..end], rest.at)
+    lines::keep_rest(&mut input[..end], rest.at)
 }
 
 // Reads once, behind the bytes that are held.

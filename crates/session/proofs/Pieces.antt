@@ -4,7 +4,7 @@ use mathlib.Core.List.{List, [], _∷_, _++_, append-assoc}
 use mathlib.Core.Path.{_≡_, refl}
 use Rattle.model.specs.Answers.{Areas}
 use Rattle.model.specs.Session.{lineLeaves, linesOf, linesPrint, linesLeave}
-use Rattle.session.specs.Lines.{Whole}
+use Rattle.lines.specs.Lines.{Whole}
 
 pub leave-append : (ls ms : List (List ℕ)) (a : Areas) → linesLeave (ls ++ ms) a ≡ linesLeave ms (linesLeave ls a)
 unfolding linesLeave

@@ -11,9 +11,9 @@ use Rattle.model.specs.Answers.{Areas}
 use Rattle.model.specs.Session.{linePrints, lineLeaves, linesOf, linesPrint, linesLeave}
 use Rattle.model.proofs.Parts.{getD-mid, length-mid}
 use Rattle.printer.proofs.Printing.{puts-append}
-use Rattle.session.specs.Lines.{Unended, LineEnd, Whole}
+use Rattle.lines.specs.Lines.{Unended, LineEnd, Whole}
 use Rattle.session.specs.Promises.{Applies, Ran}
-use Rattle.session.proofs.Lines.{lines-line, whole-line, whole-more}
+use Rattle.lines.proofs.Lines.{lines-line, whole-line, whole-more}
 use Rattle.session.proofs.Pieces.{leave-pieces, print-pieces}
 
 pub ran-none : (a : Areas) (o : List ℕ) → Ran [] a o 0 o a

@@ -8,7 +8,7 @@ use lib.ListN.{length, take}
 use Rattle.model.specs.Answers.{Areas}
 use Rattle.model.specs.Session.{linePrints, lineLeaves, linesOf, linesPrint, linesLeave}
 use Rattle.printer.specs.Puts.{Puts}
-use Rattle.session.specs.Lines.{Unended, endedLines, Whole}
+use Rattle.lines.specs.Lines.{Unended, endedLines, Whole}
 use Rattle.session.specs.declared.Printed.{Printed}
 
 -- room for one more answer; none is longer

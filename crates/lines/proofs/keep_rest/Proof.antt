@@ -5,10 +5,10 @@ use native.Mathlib.Omega.{arith}
 use lib.ListN.{length, take, drop, length-set}
 use lib.Seq.{sets}
 use borrow.Author.Tests.{ltb-true, ltb-false}
-use Rattle.session.specs.Lines.{longest}
-use Rattle.session.proofs.Keeping.{keep-more, rest-kept}
-use Rattle.session.proofs.keep_rest.Statement.{statement}
-use Rattle.session.proofs.keep_rest.Tie as tie
+use Rattle.lines.specs.Lines.{longest}
+use Rattle.lines.proofs.Keeping.{keep-more, rest-kept}
+use Rattle.lines.proofs.keep_rest.Statement.{statement}
+use Rattle.lines.proofs.keep_rest.Tie as tie
 
 abbrev Inv-loop : tie.InvT-loop
 Inv-loop input₀ from n₀ input n = (n ≤ longest) × (n ≤ length input₀ - from) × (length input ≡ length input₀) × (input ≡ sets input₀ 0 (take n (drop from input₀)))

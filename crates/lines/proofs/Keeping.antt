@@ -8,8 +8,8 @@ use lib.ListN.{length, take, drop, getD, set, length-take, length-drop}
 use lib.Seq.{sets, sets-eq, take-all, take-at, getD-drop}
 use Rattle.model.proofs.Parts.{lt-or-ge, store-more, store-ahead}
 use Rattle.printer.specs.Puts.{Puts}
-use Rattle.session.specs.Lines.{Unended, longest, Same}
-use Rattle.session.proofs.Cutting.{unended-drop, same-cut}
+use Rattle.lines.specs.Lines.{Unended, longest, Same}
+use Rattle.lines.proofs.Cutting.{unended-drop, same-cut}
 
 -- bytes put at the start stand there
 pub stands : (bytes xs : List ℕ) (r : ℕ) (s : List ℕ) → Puts bytes 0 xs r s → length bytes ≤ length xs → take r s ≡ bytes

@@ -12,9 +12,9 @@ use Rattle.model.proofs.Parts.{lt-or-ge}
 use Rattle.model.specs.Text.{text}
 use Rattle.model.specs.Answers.{Areas}
 use Rattle.model.specs.Session.{startedBy, callOf, linePrints, lineLeaves, linesOf, linesPrint, linesLeave}
-use Rattle.session.specs.Lines.{Unended, longest, Same}
-use Rattle.session.proofs.Lines.{unended-rest}
-use Rattle.session.proofs.Longest.{long-says-none}
+use Rattle.lines.specs.Lines.{Unended, longest, Same}
+use Rattle.lines.proofs.Lines.{unended-rest}
+use Rattle.lines.proofs.Longest.{long-says-none}
 
 -- the first line of a list of lines, and the others
 abbrev first : List (List ℕ) → List ℕ

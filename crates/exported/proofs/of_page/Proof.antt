@@ -1,8 +1,8 @@
 -- Every field is the page's own; its size fits 32 bits as required.
 use mathlib.Core.Path.{refl}
 use borrow.Author.Needs.{needs}
-use Rattle.mortxizal.proofs.of_page.Statement.{statement}
-use Rattle.mortxizal.proofs.of_page.Tie as tie
+use Rattle.exported.proofs.of_page.Statement.{statement}
+use Rattle.exported.proofs.of_page.Tie as tie
 
 returns : tie.Need-returns
 returns c = refl

@@ -6,7 +6,7 @@ use native.Mathlib.Omega.{arith}
 use lib.ListN.{length}
 use borrow.Author.Tests.{ne-eqb}
 use Rattle.model.specs.Session.{linesOf}
-use Rattle.session.specs.Lines.{Unended, Whole}
+use Rattle.lines.specs.Lines.{Unended, Whole}
 
 -- what holds of a text from its first byte on holds of the text behind that
 pub unended-rest : (x : ℕ) (xs : List ℕ) → Unended 0 (x ∷ xs) → Unended 0 xs

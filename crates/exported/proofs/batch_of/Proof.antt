@@ -1,7 +1,7 @@
 -- Case by case, as `batchOf` tells them.
 use borrow.Author.Needs.{needs}
-use Rattle.mortxizal.proofs.batch_of.Statement.{statement}
-use Rattle.mortxizal.proofs.batch_of.Tie as tie
+use Rattle.exported.proofs.batch_of.Statement.{statement}
+use Rattle.exported.proofs.batch_of.Tie as tie
 
 returns : tie.Need-returns
 returns c = rw (c .enum-told .given .1)

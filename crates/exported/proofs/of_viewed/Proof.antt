@@ -1,7 +1,7 @@
 -- Case by case, as `exported` tells them.
 use borrow.Author.Needs.{needs}
-use Rattle.mortxizal.proofs.of_viewed.Statement.{statement}
-use Rattle.mortxizal.proofs.of_viewed.Tie as tie
+use Rattle.exported.proofs.of_viewed.Statement.{statement}
+use Rattle.exported.proofs.of_viewed.Tie as tie
 
 of-page-requires : tie.Need-of-page-requires
 of-page-requires c κs = rw (c .before .outcome .given .1) at (c .before .before .before .pre)

@@ -1,7 +1,7 @@
 -- Every field is the hit's own, its place as a number.
 use borrow.Author.Needs.{needs}
-use Rattle.mortxizal.proofs.of_hit.Statement.{statement}
-use Rattle.mortxizal.proofs.of_hit.Tie as tie
+use Rattle.exported.proofs.of_hit.Statement.{statement}
+use Rattle.exported.proofs.of_hit.Tie as tie
 
 returns : tie.Need-returns
 returns c = rw (c .batch-of .ensures)

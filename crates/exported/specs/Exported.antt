@@ -1,16 +1,8 @@
 -- An answer as the C interface gives it: one struct for all calls.
 use Prim.Native.Nat.{ℕ, _<_, _^_}
-use mathlib.Core.List.{List}
-use mathlib.Core.Path.{_≡_}
-use Rattle.model.specs.declared.Geometry.{Geometry}
 use Rattle.model.specs.Answers.{Place, buffer, batch, Stretch, inMemory, inFlash, Answer, done, found, absent, shown, refused}
-use Rattle.model.specs.Calls.{Call, reply, after}
 use Rattle.answers.specs.declared.Viewed.{Viewed}
-use Rattle.answers.specs.Performs.{areas}
-use Rattle.mortxizal.specs.declared.MxAnswer.{MxAnswer}
-
-abbrev pub geometry : ℕ → ℕ → ℕ → ℕ → ℕ → ℕ → ℕ → Geometry
-geometry s page pages kept bits hashes list = record { parts = s; page = page; pages = pages; kept = kept; bits = bits; hashes = hashes; list = list }
+use Rattle.exported.specs.declared.MxAnswer.{MxAnswer}
 
 -- status: 0 done, 1 found, 2 none, 3 refused
 abbrev pub answer : ℕ → ℕ → ℕ → ℕ → ℕ → MxAnswer
@@ -38,8 +30,3 @@ abbrev pub SizeFits : Viewed → Type 0
 SizeFits (Viewed.Memory at size) = size < 2 ^ 32
 SizeFits (Viewed.Flash at size) = size < 2 ^ 32
 SizeFits (Viewed.Refused r) = Unit {0}
-
--- what every exported call promises: the call c on m and f answers r and leaves m′ and f′
-pub record Exports (c : Call) (m f : List ℕ) (r : MxAnswer) (m′ f′ : List ℕ) : Type 0 where
-  pub answers : r ≡ exported (reply (areas m f) c)
-  pub leaves : areas m′ f′ ≡ after (areas m f) c
