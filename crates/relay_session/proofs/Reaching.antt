@@ -10,12 +10,14 @@ use Rattle.model.specs.Session.{linesOf, linesLeave}
 use Rattle.lines.specs.Lines.{Whole, longest}
 use Rattle.lines.proofs.Lines.{whole-none, whole-more}
 use Rattle.session.proofs.Pieces.{leave-pieces}
-use Rattle.relay_session.specs.declared.Rest.{Rest}
-use Rattle.relay_session.specs.declared.Got.{Got}
-use Rattle.relay_session.specs.declared.Next.{Next}
-use Rattle.relay_session.specs.Steps.{Went, Held, heldBytes, AtStart, gotOf, MadeOf, Within, Turned, IsSession}
-use Rattle.relay_session.proofs.Getting.{got-within}
-use Rattle.relay_session.proofs.Holding.{kept-short, kept-same}
+use Rattle.held.specs.declared.Rest.{Rest}
+use Rattle.held.specs.declared.Got.{Got}
+use Rattle.pieces.specs.declared.Next.{Next}
+use Rattle.held.specs.Held.{Held, heldBytes, AtStart, gotOf, Within}
+use Rattle.pieces.specs.Pieces.{Went, MadeOf}
+use Rattle.relay_session.specs.Steps.{Turned, IsSession}
+use Rattle.held.proofs.Getting.{got-within}
+use Rattle.held.proofs.Holding.{kept-short, kept-same}
 
 -- The lines were run on a and left a′. There the bytes that are held do what the whole text does on a, whatever follows.
 pub record Reached (rest : Rest) (input : List ℕ) (a a′ : Areas) : Type 0 where

@@ -5,8 +5,8 @@ use lib.ListN.{length}
 use borrow.Author.Needs.{needs}
 use Rattle.model.specs.Session.{programAreas}
 use Rattle.answers.specs.Performs.{areas}
-use Rattle.relay_session.specs.Steps.{Held}
-use Rattle.relay_session.proofs.Holding.{held-none, kept-short, kept-unended}
+use Rattle.held.specs.Held.{Held}
+use Rattle.held.proofs.Holding.{held-none, kept-short, kept-unended}
 use Rattle.relay_session.proofs.Reaching.{Reached, reached-none, stops, goes, ends, fails}
 use Rattle.relay_session.proofs.run.Statement.{statement}
 use Rattle.relay_session.proofs.run.Tie as tie

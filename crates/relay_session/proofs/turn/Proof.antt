@@ -7,8 +7,8 @@ use lib.ListN.{length}
 use mir.Syntax.{w64}
 use mir.Val.{ofZ, toZ}
 use borrow.Author.Needs.{needs}
-use Rattle.relay_session.specs.Steps.{gotOf}
-use Rattle.relay_session.proofs.Getting.{got-within, got-behind}
+use Rattle.held.specs.Held.{gotOf}
+use Rattle.held.proofs.Getting.{got-within, got-behind}
 use Rattle.relay_session.proofs.turn.Statement.{statement}
 use Rattle.relay_session.proofs.turn.Tie as tie
 

@@ -12,7 +12,7 @@ use Rattle.lines.specs.Lines.{Unended}
 use Rattle.session.specs.Promises.{room, Ran, Takes}
 use Rattle.lines.proofs.Lines.{lines-last, whole-none, whole-more}
 use Rattle.session.proofs.Pieces.{leave-pieces}
-use Rattle.relay_session.specs.Steps.{Went}
+use Rattle.pieces.specs.Pieces.{Went}
 
 pub went-none : (xs : List ℕ) (a : Areas) → Went 0 xs a a
 unfolding linesLeave linesOf
@@ -52,10 +52,6 @@ module _ (xs : List ℕ) (taken : ℕ) (inside : taken ≤ length xs) where
 
 pub unended-end : (xs : List ℕ) (n : ℕ) → length xs ≤ n → Unended n xs
 unended-end xs n l i g k = absurd (omega arith)
-
--- what stands before a part that changes
-pub front : (n : ℕ) (xs ys : List ℕ) → n < length xs → take n (take n xs ++ ys) ≡ take n xs
-front n xs ys l = take-at (take n xs) ys n (length-take-le n xs (omega arith))
 
 -- ---- the last line
 pub leaves-none : (line : List ℕ) (a : Areas) → length line ≡ 0 → a ≡ linesLeave (linesOf line) a

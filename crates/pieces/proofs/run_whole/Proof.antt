@@ -6,10 +6,10 @@ use lib.ListN.{length}
 use lib.Seq.{length-take-le}
 use borrow.Author.Needs.{needs}
 use Rattle.answers.specs.Performs.{areas}
-use Rattle.relay_session.specs.Steps.{Went}
-use Rattle.relay_session.proofs.Going.{went-none, taken-within, went-more, went-same, went-all, unended-end}
-use Rattle.relay_session.proofs.run_whole.Statement.{statement}
-use Rattle.relay_session.proofs.run_whole.Tie as tie
+use Rattle.pieces.specs.Pieces.{Went}
+use Rattle.pieces.proofs.Going.{went-none, taken-within, went-more, went-same, went-all, unended-end}
+use Rattle.pieces.proofs.run_whole.Statement.{statement}
+use Rattle.pieces.proofs.run_whole.Tie as tie
 
 abbrev Inv-loop : tie.InvT-loop
 Inv-loop memory₀ flash₀ input out₀ taken₀ memory flash out taken =

@@ -2,9 +2,9 @@
 use mathlib.Core.Path.{sym}
 use lib.Seq.{length-take-le}
 use borrow.Author.Needs.{needs}
-use Rattle.relay_session.proofs.Holding.{kept}
-use Rattle.relay_session.proofs.hold.Statement.{statement}
-use Rattle.relay_session.proofs.hold.Tie as tie
+use Rattle.held.proofs.Holding.{kept}
+use Rattle.held.proofs.hold.Statement.{statement}
+use Rattle.held.proofs.hold.Tie as tie
 
 slice-aggregate-keep-rest : tie.Need-slice-aggregate-keep-rest
 slice-aggregate-keep-rest c = sym (length-take-le _ _ (c .before .before .pre .within))

@@ -3,9 +3,9 @@ use lib.ListN.{length}
 use mir.Syntax.{w64}
 use mir.ValLaws.{toZ-ofZ}
 use borrow.Author.Needs.{needs}
-use Rattle.relay_session.proofs.Getting.{got-failure, got-end, got-bytes}
-use Rattle.relay_session.proofs.got_of.Statement.{statement}
-use Rattle.relay_session.proofs.got_of.Tie as tie
+use Rattle.held.proofs.Getting.{got-failure, got-end, got-bytes}
+use Rattle.held.proofs.got_of.Statement.{statement}
+use Rattle.held.proofs.got_of.Tie as tie
 
 returns : tie.Need-returns
 returns c =

@@ -1,8 +1,8 @@
 -- What was held stands before the part that is lent.
 use borrow.Author.Needs.{needs}
-use Rattle.relay_session.proofs.Going.{front}
-use Rattle.relay_session.proofs.read_behind.Statement.{statement}
-use Rattle.relay_session.proofs.read_behind.Tie as tie
+use Rattle.held.proofs.Holding.{front}
+use Rattle.held.proofs.read_behind.Statement.{statement}
+use Rattle.held.proofs.read_behind.Tie as tie
 
 returns : tie.Need-returns
 returns c = front _ _ _ (c .before .before .before .before .before .pre)

@@ -11,8 +11,8 @@ use borrow.Author.Tests.{ltb-true}
 use Rattle.io.specs.Counts.{clamped}
 use Rattle.model.specs.Bytes.{mid}
 use Rattle.model.proofs.Parts.{length-mid}
-use Rattle.relay_session.specs.declared.Got.{Got}
-use Rattle.relay_session.specs.Steps.{cameOf, gotOf, Within}
+use Rattle.held.specs.declared.Got.{Got}
+use Rattle.held.specs.Held.{cameOf, gotOf, Within}
 
 -- y is the answer z, read back from its bits; n bytes were free
 module _ (y z : ℤ) (same : y ≡ z) (n : ℕ) where

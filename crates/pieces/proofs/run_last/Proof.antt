@@ -3,9 +3,9 @@ use mathlib.Core.Path.{sym}
 use native.Mathlib.Omega.{arith}
 use lib.Seq.{length-take-le}
 use borrow.Author.Needs.{needs}
-use Rattle.relay_session.proofs.Going.{leaves-none, leaves-last}
-use Rattle.relay_session.proofs.run_last.Statement.{statement}
-use Rattle.relay_session.proofs.run_last.Tie as tie
+use Rattle.pieces.proofs.Going.{leaves-none, leaves-last}
+use Rattle.pieces.proofs.run_last.Statement.{statement}
+use Rattle.pieces.proofs.run_last.Tie as tie
 
 returns : tie.Need-returns
 returns c = leaves-none _ _ (c .if1 .taken)

@@ -1,16 +1,16 @@
 -- The unfinished line that is held between two reads.
-use Prim.Native.Nat.{ℕ, _≤_}
+use Prim.Native.Nat.{ℕ, _≤_, _<_}
 use mathlib.Core.List.{List, _++_}
 use mathlib.Core.Path.{_≡_, _∙_, ap}
 use native.Mathlib.Omega.{arith}
 use lib.ListN.{length, take, drop, length-take, length-drop, length-append}
-use lib.Seq.{take-append-le, length-sets, length-take-le}
+use lib.Seq.{take-at, take-append-le, length-sets, length-take-le}
 use Rattle.printer.specs.Puts.{Puts}
 use Rattle.lines.specs.Lines.{Unended, longest, Same}
 use Rattle.lines.proofs.Cutting.{unended-take, unended-drop, same-cut}
 use Rattle.lines.proofs.Keeping.{stands}
-use Rattle.relay_session.specs.declared.Rest.{Rest}
-use Rattle.relay_session.specs.Steps.{Held, heldBytes, AtStart}
+use Rattle.held.specs.declared.Rest.{Rest}
+use Rattle.held.specs.Held.{Held, heldBytes, AtStart}
 
 pub held-none : (xs : List ℕ) → Held (record { at = 0; end = 0 }) xs
 held-none xs = record { begins = omega arith; within = omega arith; unended = λ i g l. absurd (omega arith) }
@@ -33,3 +33,7 @@ module _ {n : ℕ} {rest : Rest} {xs ys : List ℕ} (k : AtStart n rest xs ys) (
   -- it does what the whole line does
   pub kept-same : Same (heldBytes rest xs) (take n ys)
   kept-same = rw (k .stands) (same-cut (heldBytes rest xs) (unended-drop (rest .at) (take (rest .end) xs) (h .unended)))
+
+-- what stands before a part that changes
+pub front : (n : ℕ) (xs ys : List ℕ) → n < length xs → take n (take n xs ++ ys) ≡ take n xs
+front n xs ys l = take-at (take n xs) ys n (length-take-le n xs (omega arith))

@@ -5,8 +5,8 @@ use native.Mathlib.Omega.{arith}
 use lib.ListN.{length}
 use lib.Seq.{length-take-le}
 use borrow.Author.Needs.{needs}
-use Rattle.relay_session.proofs.run_piece.Statement.{statement}
-use Rattle.relay_session.proofs.run_piece.Tie as tie
+use Rattle.pieces.proofs.run_piece.Statement.{statement}
+use Rattle.pieces.proofs.run_piece.Tie as tie
 
 slice-aggregate-run-last : tie.Need-slice-aggregate-run-last
 slice-aggregate-run-last c = sym (length-take-le _ _ (c .before .before .before .before .before .before .before .before .before .pre .1 .0))
