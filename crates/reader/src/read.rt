@@ -6,15 +6,15 @@ ghost use Rattle.model.specs.Text.{past};
 ghost use Rattle.model.specs.Calls.{Call};
 ghost use Rattle.model.specs.Session.{then, atEnd, putLine, getLine, delLine, flushLine, formatLine, callOf};
 ghost use Rattle.reader.specs.Forms.{formCall};
-ghost use Rattle.reader.specs.Places.{ThreeFigures, threeIn, threePast};
-use crate::Behind;
+ghost use Rattle.reader.specs.Threes.{ThreeFigures, threeIn, threePast};
 use crate::Form;
-use crate::Narrow;
-use crate::Number;
 use crate::Three;
-use crate::figures::narrow_past;
-use crate::figures::number_past;
-use crate::figures::text_past;
+use figures::Behind;
+use figures::Narrow;
+use figures::Number;
+use figures::narrow_past;
+use figures::number_past;
+use figures::text_past;
 use model::Geometry;
 
 // The largest key and the largest value.

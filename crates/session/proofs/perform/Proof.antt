@@ -1,6 +1,6 @@
 -- The form says the line's call; each case is that call and the text of its answer.
 use Rattle.reader.specs.Forms.{formCall}
-use Rattle.reader.proofs.Steps.{known}
+use Rattle.figures.proofs.Steps.{known}
 use Rattle.session.proofs.Applying.{calls, bad}
 use borrow.Author.Needs.{needs}
 use Rattle.session.proofs.perform.Statement.{statement}

@@ -1,8 +1,9 @@
 -- The line ends where nothing follows the text.
 use mathlib.Core.Path.{sym}
-use Rattle.reader.proofs.Steps.{known, end-lacks, end-follows, end-here}
+use Rattle.figures.proofs.Steps.{known}
+use Rattle.reader.proofs.Forms.{end-lacks, end-follows, end-here}
 use Rattle.reader.specs.Forms.{formCall}
-use Rattle.reader.specs.Places.{behindIn}
+use Rattle.figures.specs.Places.{behindIn}
 use borrow.Author.Needs.{needs}
 use Rattle.reader.proofs.read.ending.Statement.{statement}
 use Rattle.reader.proofs.read.ending.Tie as tie

@@ -5,8 +5,9 @@ use lib.ListN.{drop}
 use Rattle.model.specs.Text.{text}
 use Rattle.model.specs.Calls.{Call, format}
 use Rattle.model.specs.Session.{then, narrow, numberPast, ending, formatLine}
-use Rattle.reader.specs.Places.{ThreeFigures, narrowIn, threeIn, threePast}
-use Rattle.reader.proofs.Steps.{step, known-then}
+use Rattle.figures.specs.Places.{narrowIn}
+use Rattle.reader.specs.Threes.{ThreeFigures, threeIn, threePast}
+use Rattle.figures.proofs.Steps.{step, known-then}
 use borrow.Author.Needs.{needs}
 use Rattle.reader.proofs.read.read_format.Statement.{statement}
 use Rattle.reader.proofs.read.read_format.Tie as tie

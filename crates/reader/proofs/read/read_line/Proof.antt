@@ -1,6 +1,7 @@
 -- A form that is Bad says no call, and the next is tried; the first that says one is the line's.
 use mathlib.Core.Path.{_≡_}
-use Rattle.reader.proofs.Steps.{known, first-call}
+use Rattle.figures.proofs.Steps.{known}
+use Rattle.reader.proofs.Forms.{first-call}
 use Rattle.reader.specs.Forms.{formCall}
 use Rattle.model.specs.Session.{putLine, getLine, delLine, callOf}
 use mathlib.Core.Option.{none}

@@ -1,7 +1,7 @@
 -- Each step reads what the step before it left.
 use mathlib.Core.Path.{sym, _∙_}
-use Rattle.reader.proofs.Steps.{step}
-use Rattle.reader.specs.Places.{numberIn}
+use Rattle.figures.proofs.Steps.{step}
+use Rattle.figures.specs.Places.{numberIn}
 use Rattle.model.specs.Session.{putLine}
 use borrow.Author.Needs.{needs}
 use Rattle.reader.proofs.read.read_put.Statement.{statement}

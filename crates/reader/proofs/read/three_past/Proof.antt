@@ -1,7 +1,7 @@
 -- Each step reads what the step before it left, whatever is made of the three.
 use mathlib.Core.Path.{sym, _∙_}
-use Rattle.reader.proofs.Steps.{step}
-use Rattle.reader.specs.Places.{narrowIn}
+use Rattle.figures.proofs.Steps.{step}
+use Rattle.figures.specs.Places.{narrowIn}
 use borrow.Author.Needs.{needs}
 use Rattle.reader.proofs.read.three_past.Statement.{statement}
 use Rattle.reader.proofs.read.three_past.Tie as tie

@@ -1,10 +1,10 @@
 -- A number of at most 4294967295 fits 32 bits.
 use mathlib.Core.Path.{sym}
-use Rattle.reader.proofs.Steps.{known, read-below}
-use Rattle.reader.specs.Places.{numberIn}
+use Rattle.figures.proofs.Steps.{known, read-below}
+use Rattle.figures.specs.Places.{numberIn}
 use borrow.Author.Needs.{needs}
-use Rattle.reader.proofs.figures.narrow_past.Statement.{statement}
-use Rattle.reader.proofs.figures.narrow_past.Tie as tie
+use Rattle.figures.proofs.narrow_past.Statement.{statement}
+use Rattle.figures.proofs.narrow_past.Tie as tie
 
 returns : tie.Need-returns
 returns c = sym (known (numberIn _) (c .before .before .number-past .ensures) (c .enum-told .given .1))

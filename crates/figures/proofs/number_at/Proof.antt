@@ -1,15 +1,15 @@
 -- The loop's invariant: the figures from `at` on say what those from `i` on say behind n, and end where those end. A number only grows by figures behind it, so one that passes `most` stays above it.
 use mathlib.Core.Bool.{true}
 use borrow.Author.Tests.{not-true, not-false}
-use Rattle.reader.specs.Places.{figureAt}
+use Rattle.figures.specs.Places.{figureAt}
 use Prim.Native.Nat.{_-_, _≤_}
 use native.Mathlib.Omega.{arith}
 use borrow.Author.Needs.{needs}
 use mathlib.Core.Path.{_≡_, refl, sym, _∙_}
 use lib.ListN.{length}
-use Rattle.reader.proofs.Reading.{Reads, reads-more, reads-over, reads-all, figure-here, figure-not-plain}
-use Rattle.reader.proofs.figures.number.Statement.{statement}
-use Rattle.reader.proofs.figures.number.Tie as tie
+use Rattle.figures.proofs.Reading.{Reads, reads-more, reads-over, reads-all, figure-here, figure-not-plain}
+use Rattle.figures.proofs.number_at.Statement.{statement}
+use Rattle.figures.proofs.number_at.Tie as tie
 
 abbrev Inv-loop : tie.InvT-loop
 Inv-loop line at most n₀ i₀ n i = (n ≤ most) × Reads line at n i
@@ -50,5 +50,5 @@ loop-again c = (omega arith, rw (c .before .before .wide .ensures) (reads-more _
 returns-4 : tie.Need-returns-4 Inv-loop μ-loop
 returns-4 c = sym (reads-all _ _ _ _ _ (c .before .before .loop .inv .1) (sym (c .before .before .before .before .is-plain .ensures) ∙ not-false _ (c .before .before .before .if1 .left)) (sym (c .before .is-figure .ensures) ∙ c .if2 .left) (omega arith))
 
-pub number-spec : {M : Type 1} → statement M
-number-spec = tie.close (tie.spec Inv-loop μ-loop (λ c κs. search needs) returns loop-holds (λ c κs. search needs) shared-slice-read-wide (λ c κs. search needs) sub-d returns-2 (λ c. omega arith) (λ c. omega arith) returns-3 (λ c. omega arith) (λ c. omega arith) add-i loop-less loop-again returns-4)
+pub number-at-spec : {M : Type 1} → statement M
+number-at-spec = tie.close (tie.spec Inv-loop μ-loop (λ c κs. search needs) returns loop-holds (λ c κs. search needs) shared-slice-read-wide (λ c κs. search needs) sub-d returns-2 (λ c. omega arith) (λ c. omega arith) returns-3 (λ c. omega arith) (λ c. omega arith) add-i loop-less loop-again returns-4)

@@ -4,10 +4,25 @@ ghost use Prim.Native.Nat.{_+_};
 ghost use lib.ListN.{drop};
 ghost use Rattle.model.specs.Text.{past, leading, isPlain, figure};
 ghost use Rattle.model.specs.Session.{narrow};
-ghost use Rattle.reader.specs.Places.{figureAt, behindIn, numberIn, narrowIn, figurePast};
-use crate::Behind;
-use crate::Narrow;
-use crate::Number;
+ghost use Rattle.figures.specs.Places.{figureAt, behindIn, numberIn, narrowIn, figurePast};
+
+// The place behind a fixed text that stands in a line.
+pub enum Behind {
+    At(usize),
+    Nowhere,
+}
+
+// A number in a line and the place behind it.
+pub enum Number {
+    Read(u64, usize),
+    Bad,
+}
+
+// The same, of a number below 2^32.
+pub enum Narrow {
+    Read(u32, usize),
+    Bad,
+}
 
 // The place behind `text`, where that stands in the line from `at` on.
 pub fn text_past(line: &[u8], at: usize, text: &[u8]) -> Behind
@@ -58,7 +73,7 @@ fn wide(x: u8) -> u64
 }
 
 // The number of at most `most` that stands in the line from `at` on: figures without a leading zero.
-fn number(line: &[u8], at: usize, most: u64) -> Number
+fn number_at(line: &[u8], at: usize, most: u64) -> Number
     ensures { λ r. ⌜ numberIn (now (line .entry)) r ≡ figure (most + 1) (drop at (now (line .entry))) ⌝ }
 {
     if !is_plain(line, at) {
@@ -88,7 +103,7 @@ pub fn number_past(line: &[u8], at: usize, text: &[u8], most: u64) -> Number
     let Behind::At(next) = text_past(line, at, text) else {
         return Number::Bad;
     };
-    number(line, next, most)
+    number_at(line, next, most)
 }
 
 // The number below 2^32 behind a fixed text.

@@ -1,11 +1,11 @@
 -- Past the line's end stands 0, which is no figure.
 use Prim.Native.Nat.{ℕ}
-use Rattle.reader.specs.Places.{figureAt}
+use Rattle.figures.specs.Places.{figureAt}
 use lib.ListN.{List·getD-eq-default}
 use borrow.Author.Tests.{le-leb, lt-leb}
 use borrow.Author.Needs.{needs}
-use Rattle.reader.proofs.figures.is_figure.Statement.{statement}
-use Rattle.reader.proofs.figures.is_figure.Tie as tie
+use Rattle.figures.proofs.is_figure.Statement.{statement}
+use Rattle.figures.proofs.is_figure.Tie as tie
 
 returns : tie.Need-returns
 unfolding figureAt

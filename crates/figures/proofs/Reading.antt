@@ -13,7 +13,7 @@ use lib.Seq.{drop-cons, drop-drop}
 use borrow.Author.Tests.{leb-true, ltb-true, lt-ltb, le-ltb, ne-eqb}
 use Rattle.model.proofs.Parts.{lt-or-ge}
 use Rattle.model.specs.Text.{leading, isPlain, numberFrom, Figure, figure}
-use Rattle.reader.specs.Places.{figureAt}
+use Rattle.figures.specs.Places.{figureAt}
 
 -- ---- a figure, or none, at the place i of a line
 both : (a b : Bool) → (a && b) ≡ true → (a ≡ true) × (b ≡ true)

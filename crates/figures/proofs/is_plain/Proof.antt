@@ -3,11 +3,11 @@ use native.Mathlib.Omega.{arith}
 use mathlib.Core.Path.{_≡_, sym, _∙_}
 use mathlib.Core.Bool.{true}
 use borrow.Author.Tests.{not-true, not-false}
-use Rattle.reader.specs.Places.{figureAt}
-use Rattle.reader.proofs.Reading.{figure-here, leading-none, plain-more, plain-zero}
+use Rattle.figures.specs.Places.{figureAt}
+use Rattle.figures.proofs.Reading.{figure-here, leading-none, plain-more, plain-zero}
 use borrow.Author.Needs.{needs}
-use Rattle.reader.proofs.figures.is_plain.Statement.{statement}
-use Rattle.reader.proofs.figures.is_plain.Tie as tie
+use Rattle.figures.proofs.is_plain.Statement.{statement}
+use Rattle.figures.proofs.is_plain.Tie as tie
 
 first : (c : tie.Else1) → figureAt (c .before .before .before .args .line .now) (c .before .before .before .args .at) ≡ true
 first c = sym (c .before .is-figure .ensures) ∙ not-false _ (c .if1 .left)

@@ -4,9 +4,9 @@ use native.Mathlib.Omega.{arith}
 use mathlib.Core.Path.{_≡_, refl, sym, _∙_}
 use lib.ListN.{length, drop}
 use Rattle.model.specs.Text.{past}
-use Rattle.reader.proofs.Texts.{past-next, past-other, past-short, past-whole}
-use Rattle.reader.proofs.figures.text_past.Statement.{statement}
-use Rattle.reader.proofs.figures.text_past.Tie as tie
+use Rattle.figures.proofs.Texts.{past-next, past-other, past-short, past-whole}
+use Rattle.figures.proofs.text_past.Statement.{statement}
+use Rattle.figures.proofs.text_past.Tie as tie
 
 abbrev Inv-loop : tie.InvT-loop
 Inv-loop line at text i₀ next₀ i next = past (drop i text) (drop next line) ≡ past text (drop at line)
