@@ -9,7 +9,8 @@ use Rattle.model.specs.Bytes.{mid}
 use Rattle.model.specs.Answers.{Areas}
 use Rattle.model.specs.Session.{lineLeaves, linesOf, linesPrint, linesLeave}
 use Rattle.lines.specs.Lines.{Unended}
-use Rattle.session.specs.Promises.{room, Ran, Takes}
+use Rattle.applying.specs.Applies.{room}
+use Rattle.session.specs.Promises.{Ran, Takes}
 use Rattle.lines.proofs.Lines.{lines-last, whole-none, whole-more}
 use Rattle.session.proofs.Pieces.{leave-pieces}
 use Rattle.pieces.specs.Pieces.{Went}

@@ -5,7 +5,7 @@ ghost use lib.ListN.{length, take};
 ghost use Rattle.model.specs.Session.{linesOf, linesLeave};
 ghost use Rattle.answers.specs.Performs.{areas};
 ghost use Rattle.lines.specs.Lines.{Unended};
-ghost use Rattle.session.specs.Promises.{room};
+ghost use Rattle.applying.specs.Applies.{room};
 ghost use Rattle.held.specs.Held.{Within};
 ghost use Rattle.pieces.specs.Pieces.{WentOn, MadeOf};
 use held::Got;

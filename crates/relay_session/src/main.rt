@@ -5,7 +5,7 @@ ghost use lib.ListN.{length, take};
 ghost use Rattle.model.specs.Session.{zeroArea, programAreas};
 ghost use Rattle.answers.specs.Performs.{areas};
 ghost use Rattle.lines.specs.Lines.{Unended, longest};
-ghost use Rattle.session.specs.Promises.{room};
+ghost use Rattle.applying.specs.Applies.{room};
 ghost use Rattle.relay_session.specs.Steps.{Turned, IsSession};
 use held::Rest;
 use held::got_of;

@@ -1,4 +1,3 @@
-pub mod Applying
 pub mod Pieces
 pub mod Running
 pub mod Taking

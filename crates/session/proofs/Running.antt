@@ -12,7 +12,8 @@ use Rattle.model.specs.Session.{linePrints, lineLeaves, linesOf, linesPrint, li
 use Rattle.model.proofs.Parts.{getD-mid, length-mid}
 use Rattle.printer.proofs.Printing.{puts-append}
 use Rattle.lines.specs.Lines.{Unended, LineEnd, Whole}
-use Rattle.session.specs.Promises.{Applies, Ran}
+use Rattle.applying.specs.Applies.{Applies}
+use Rattle.session.specs.Promises.{Ran}
 use Rattle.lines.proofs.Lines.{lines-line, whole-line, whole-more}
 use Rattle.session.proofs.Pieces.{leave-pieces, print-pieces}
 

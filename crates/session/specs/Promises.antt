@@ -9,17 +9,8 @@ use Rattle.model.specs.Answers.{Areas}
 use Rattle.model.specs.Session.{linePrints, lineLeaves, linesOf, linesPrint, linesLeave}
 use Rattle.printer.specs.Puts.{Puts}
 use Rattle.lines.specs.Lines.{Unended, endedLines, Whole}
+use Rattle.applying.specs.Applies.{room, Applies}
 use Rattle.session.specs.declared.Printed.{Printed}
-
--- room for one more answer; none is longer
-abbrev pub room : ℕ
-room = 64
-
--- one line on the areas a: its answer stands whole from `at` on up to `next`, and it leaves a′
-pub record Applies (line : List ℕ) (a : Areas) (at : ℕ) (before : List ℕ) (next : ℕ) (later : List ℕ) (a′ : Areas) : Type 0 where
-  pub fits : next ≤ length before
-  pub prints : Puts (linePrints line a) at before next later
-  pub leaves : a′ ≡ lineLeaves line a
 
 -- too little room, and nothing was done
 pub record Untouched (a : Areas) (at : ℕ) (before later : List ℕ) (a′ : Areas) : Type 0 where

@@ -1,14 +1,12 @@
 // The session: one line, or all whole lines of a text, applied to two areas, with their answers as text.
 ghost use mathlib.Core.Path.{_≡_};
-ghost use Prim.Native.Nat.{_+_, _≤_};
+ghost use Prim.Native.Nat.{_+_};
 ghost use lib.Dec.{leb};
 ghost use lib.ListN.{length, take};
 ghost use Rattle.answers.specs.Performs.{areas};
-ghost use Rattle.session.specs.Promises.{room, Applies, Applied, Ran, Takes};
-use printer::write_answer;
-use printer::write_bad;
-use printer::write_written;
-use reader::Form;
+ghost use Rattle.applying.specs.Applies.{room};
+ghost use Rattle.session.specs.Promises.{Applied, Ran, Takes};
+use applying::perform;
 
 // Room for one answer: none has more than 40 bytes.
 const ROOM: usize = 64;
@@ -29,20 +27,6 @@ fn has_room(out: &[u8], at: usize) -> bool
     ensures { λ r. ⌜ r ≡ leb (at + room) (length (now (out .entry))) ⌝ }
 {
     out.len() >= ROOM && at <= out.len() - ROOM
-}
-
-fn perform(memory: &mut [u8], flash: &mut [u8], line: &[u8], out: &mut [u8], at: usize) -> usize
-    requires { ⌜ at + room ≤ length (now out) ⌝ }
-    ensures { λ r. ⌜ Applies (now (line .entry)) (areas (now (memory .entry)) (now (flash .entry))) at (now (out .entry)) r (now (out .exit)) (areas (now (memory .exit)) (now (flash .exit))) ⌝ }
-{
-    match reader::read_line(line) {
-        Form::Format(g) => write_written(out, at, index::format(memory, flash, g)),
-        Form::Put(key, value) => write_written(out, at, index::put(memory, flash, key, value)),
-        Form::Get(key) => write_answer(out, at, index::get(memory, flash, key)),
-        Form::Del(key) => write_written(out, at, index::del(memory, flash, key)),
-        Form::Flush(partition) => write_written(out, at, index::flush(memory, flash, partition)),
-        Form::Bad => write_bad(out, at),
-    }
 }
 
 // One line, without the byte that ends it; its answer goes to `out` from `at` on.

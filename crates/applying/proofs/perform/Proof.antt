@@ -1,10 +1,10 @@
 -- The form says the line's call; each case is that call and the text of its answer.
 use Rattle.reader.specs.Forms.{formCall}
 use Rattle.figures.proofs.Steps.{known}
-use Rattle.session.proofs.Applying.{calls, bad}
+use Rattle.applying.proofs.Applying.{calls, bad}
 use borrow.Author.Needs.{needs}
-use Rattle.session.proofs.perform.Statement.{statement}
-use Rattle.session.proofs.perform.Tie as tie
+use Rattle.applying.proofs.perform.Statement.{statement}
+use Rattle.applying.proofs.perform.Tie as tie
 
 returns : tie.Need-returns
 returns c = calls (c .before .before .before .before .before .before .before .before .before .before .before .before .before .before .before .before .before .pre) (known formCall (c .before .before .before .before .before .before .before .before .before .before .before .before .read-line .ensures) (c .before .before .before .before .before .before .before .before .before .before .g .given .1)) (c .before .before .before .before .before .format .ensures) (c .before .before .write-written .ensures)

@@ -12,7 +12,7 @@ use Rattle.model.specs.Session.{callOf, answerText, linePrints, lineLeaves}
 use Rattle.answers.specs.Performs.{areas, Performs}
 use Rattle.printer.specs.Puts.{Puts}
 use Rattle.printer.proofs.Printing.{length-answer}
-use Rattle.session.specs.Promises.{room, Applies}
+use Rattle.applying.specs.Applies.{room, Applies}
 
 pub calls : {line : List ℕ} {c : Call} {m f m′ f′ : List ℕ} {r : Answer} {at next : ℕ} {o o′ : List ℕ} → at + room ≤ length o → callOf line ≡ some c → Performs c m f r m′ f′ → Puts (answerText r) at o next o′ → Applies line (areas m f) at o next o′ (areas m′ f′)
 unfolding linePrints lineLeaves
