@@ -1,5 +1,4 @@
 // The ends of lines: where a line ends, and what is kept of one that has not ended.
-ghost use mathlib.Core.Path.{_≡_};
 ghost use Prim.Native.Nat.{_≤_};
 ghost use lib.ListN.{length, take, drop};
 ghost use Rattle.printer.specs.Puts.{Puts};

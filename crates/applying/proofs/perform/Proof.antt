@@ -6,23 +6,41 @@ use borrow.Author.Needs.{needs}
 use Rattle.applying.proofs.perform.Statement.{statement}
 use Rattle.applying.proofs.perform.Tie as tie
 
+-- In each arm `made` is where the call was made, and `read` where the line was read.
 returns : tie.Need-returns
-returns c = calls (c .before .before .before .before .before .before .before .before .before .before .before .before .before .before .before .before .before .pre) (known formCall (c .before .before .before .before .before .before .before .before .before .before .before .before .read-line .ensures) (c .before .before .before .before .before .before .before .before .before .before .g .given .1)) (c .before .before .before .before .before .format .ensures) (c .before .before .write-written .ensures)
+returns c =
+    let made = c .before .before .before .before .before in
+    let read = made .before .before .before .before .before .before .before in
+    calls (read .before .before .before .before .before .pre) (known formCall (read .read-line .ensures) (made .before .before .before .before .before .g .given .1)) (made .format .ensures) (c .before .before .write-written .ensures)
 
 returns-2 : tie.Need-returns-2
-returns-2 c = calls (c .before .before .before .before .before .before .before .before .before .before .before .before .before .before .before .before .before .before .before .pre) (known formCall (c .before .before .before .before .before .before .before .before .before .before .before .before .before .before .read-line .ensures) (c .before .before .before .before .before .before .before .before .before .before .before .before .key .given .1)) (c .before .before .before .before .before .before .before .put .ensures) (c .before .before .write-written2 .ensures)
+returns-2 c =
+    let made = c .before .before .before .before .before .before .before in
+    let read = made .before .before .before .before .before .before .before in
+    calls (read .before .before .before .before .before .pre) (known formCall (read .read-line .ensures) (made .before .before .before .before .before .key .given .1)) (made .put .ensures) (c .before .before .write-written2 .ensures)
 
 returns-3 : tie.Need-returns-3
-returns-3 c = calls (c .before .before .before .before .before .before .before .before .before .before .before .before .before .before .before .pre) (known formCall (c .before .before .before .before .before .before .before .before .before .before .read-line .ensures) (c .before .before .before .before .before .before .before .before .key2 .given .1)) (c .before .before .before .get .ensures) (c .before .before .write-answer .ensures)
+returns-3 c =
+    let made = c .before .before .before in
+    let read = made .before .before .before .before .before .before .before in
+    calls (read .before .before .before .before .before .pre) (known formCall (read .read-line .ensures) (made .before .before .before .before .before .key2 .given .1)) (made .get .ensures) (c .before .before .write-answer .ensures)
 
 returns-4 : tie.Need-returns-4
-returns-4 c = calls (c .before .before .before .before .before .before .before .before .before .before .before .before .before .before .before .before .before .pre) (known formCall (c .before .before .before .before .before .before .before .before .before .before .before .before .read-line .ensures) (c .before .before .before .before .before .before .before .before .before .before .key3 .given .1)) (c .before .before .before .before .before .del .ensures) (c .before .before .write-written3 .ensures)
+returns-4 c =
+    let made = c .before .before .before .before .before in
+    let read = made .before .before .before .before .before .before .before in
+    calls (read .before .before .before .before .before .pre) (known formCall (read .read-line .ensures) (made .before .before .before .before .before .key3 .given .1)) (made .del .ensures) (c .before .before .write-written3 .ensures)
 
 returns-5 : tie.Need-returns-5
-returns-5 c = calls (c .before .before .before .before .before .before .before .before .before .before .before .before .before .before .before .before .before .before .before .pre) (known formCall (c .before .before .before .before .before .before .before .before .before .before .before .before .before .before .read-line .ensures) (c .before .before .before .before .before .before .before .before .before .before .before .before .partition .given .1)) (c .before .before .before .before .before .before .before .flush .ensures) (c .before .before .write-written4 .ensures)
+returns-5 c =
+    let made = c .before .before .before .before .before .before .before in
+    let read = made .before .before .before .before .before .before .before in
+    calls (read .before .before .before .before .before .pre) (known formCall (read .read-line .ensures) (made .before .before .before .before .before .partition .given .1)) (made .flush .ensures) (c .before .before .write-written4 .ensures)
 
 returns-6 : tie.Need-returns-6
-returns-6 c = bad (c .before .before .before .before .before .before .before .before .before .before .before .pre) (known formCall (c .before .before .before .before .before .before .read-line .ensures) (c .before .before .before .before .enum-told .given .1)) (c .before .before .write-bad .ensures)
+returns-6 c =
+    let read = c .before .before .before .before .before .before in
+    bad (read .before .before .before .before .before .pre) (known formCall (read .read-line .ensures) (c .before .before .before .before .enum-told .given .1)) (c .before .before .write-bad .ensures)
 
 pub perform-spec : {M : Type 1} → statement M
 perform-spec =

@@ -43,16 +43,18 @@ perform-requires c κs = enough (c .before .before .before .before .before .befo
 
 loop-again : tie.Need-loop-again Inv-loop μ-loop
 loop-again c =
-    let i = c .before .before .before .before .before .before .before .before .before .before .before .before .before .before .before .before .loop .inv in
-    let e = c .before .before .before .before .before .before .before .before .before .before .before .before .line-end .ensures in
-    let p = c .before .before .before .before .before .before .perform .ensures in (
+    let done = c .before .before .before .before .before .before in
+    let ended = done .before .before .before .before .before .before in
+    let i = ended .before .before .before .before .loop .inv in
+    let e = ended .line-end .ensures in
+    let p = done .perform .ensures in (
       omega arith,
       omega arith,
       omega arith,
       omega arith,
       taken-more _ _ _ e (omega arith) (i .4),
       ran-more _ _ _ e (omega arith) (i .4) (i .5) p,
-      goes-more (i .6) _ e (omega arith) (omega (arith, enough (c .before .before .before .before .before .before .before .before .before .before .before .before .before))) p,
+      goes-more (i .6) _ e (omega arith) (omega (arith, enough (ended .before))) p,
     )
 
 returns : tie.Need-returns Inv-loop μ-loop
