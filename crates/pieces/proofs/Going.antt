@@ -4,7 +4,7 @@ use mathlib.Core.List.{List, [], _∷_, _++_}
 use mathlib.Core.Path.{_≡_, refl, sym, _∙_, ap}
 use native.Mathlib.Omega.{arith}
 use lib.ListN.{length, take, drop, getD, length-drop}
-use lib.Seq.{take-all, take-add, take-at, length-take-le, getD-drop}
+use lib.Seq.{take-all, take-add, getD-drop}
 use Rattle.model.specs.Bytes.{mid}
 use Rattle.model.specs.Answers.{Areas}
 use Rattle.model.specs.Session.{lineLeaves, linesOf, linesPrint, linesLeave}

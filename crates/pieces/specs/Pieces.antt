@@ -6,7 +6,6 @@ use lib.ListN.{length, take}
 use Rattle.model.specs.Answers.{Areas}
 use Rattle.model.specs.Session.{linesOf, linesLeave}
 use Rattle.lines.specs.Lines.{Unended, Whole}
-use Rattle.held.specs.declared.Rest.{Rest}
 use Rattle.held.specs.declared.Got.{Got}
 use Rattle.pieces.specs.declared.Step.{Step}
 use Rattle.pieces.specs.declared.Next.{Next}

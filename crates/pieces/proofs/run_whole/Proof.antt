@@ -24,6 +24,13 @@ abbrev μ-loop : tie.MeasureT-loop
 loop-holds : tie.Need-loop-holds Inv-loop μ-loop
 loop-holds c = (refl, refl, refl, went-none _ _)
 
+-- where the lines were run, and where that turn of the loop began
+abbrev at-run : tie.After-struct-known Inv-loop μ-loop → tie.After-run-lines Inv-loop μ-loop
+at-run c = c .before .before .before .before .before .before .before
+
+abbrev at-loop : tie.After-run-lines Inv-loop μ-loop → tie.At-loop Inv-loop μ-loop
+at-loop c = c .before .before .before .before .before .before
+
 slice-reshare-prefix-write-all : tie.Need-slice-reshare-prefix-write-all Inv-loop μ-loop
 slice-reshare-prefix-write-all c = omega (arith, c .before .before .before .before .before .before .before .before .run-lines .ensures .1 .fits)
 
@@ -33,12 +40,15 @@ slice-aggregate-write-all c = sym (length-take-le _ _ (slice-reshare-prefix-writ
 -- lines are run before their answers are written
 returns : tie.Need-returns Inv-loop μ-loop
 returns c =
-    let t = c .before .before .before .before .before .before .before .before .before .before .before .run-lines .ensures in
-    let w = c .before .before .before .before .before .before .before .before .before .before .before .before .before .before .before .before .before .loop .inv .3 in
+    let r = at-run (c .before .before .before .before) in
+    let t = r .run-lines .ensures in
+    let w = at-loop r .loop .inv .3 in
     record { taken = _; went = went-more _ _ (w .within) _ _ _ (t .0) w (t .1) }
 
-inside : (c : tie.After-struct-known2 Inv-loop μ-loop) → c .before .before .before .before .before .before .before .before .before .before .before .before .before .before .before .before .before .before .loop .taken + c .before .before .before .before .before .before .before .before .before .before .before .before .run-lines .result .taken ≤ length (c .before .before .before .before .before .before .before .before .before .before .before .before .before .before .before .before .before .before .before .before .before .before .before .args .input .now)
-inside c = taken-within (c .before .before .before .before .before .before .before .before .before .before .before .before .before .before .before .before .before .before .before .before .before .before .before .args .input .now) _ (c .before .before .before .before .before .before .before .before .before .before .before .before .before .before .before .before .before .before .loop .inv .3 .within) _ _ _ (c .before .before .before .before .before .before .before .before .before .before .before .before .run-lines .ensures .0)
+inside : (c : tie.After-struct-known2 Inv-loop μ-loop) → let r = at-run (c .before .before .before .before .before) in at-loop r .loop .taken + r .run-lines .result .taken ≤ length (at-loop r .before .before .before .before .before .args .input .now)
+inside c =
+    let r = at-run (c .before .before .before .before .before) in
+    taken-within (at-loop r .before .before .before .before .before .args .input .now) _ (at-loop r .loop .inv .3 .within) _ _ _ (r .run-lines .ensures .0)
 
 add-taken : tie.Need-add-taken Inv-loop μ-loop
 add-taken c = omega (arith, inside c)
@@ -48,8 +58,9 @@ loop-less c = omega (arith, inside c)
 
 loop-again : tie.Need-loop-again Inv-loop μ-loop
 loop-again c =
-    let t = c .before .before .before .before .before .before .before .before .before .before .before .before .run-lines .ensures in
-    let w = c .before .before .before .before .before .before .before .before .before .before .before .before .before .before .before .before .before .before .loop .inv .3 in
+    let r = at-run (c .before .before .before .before .before) in
+    let t = r .run-lines .ensures in
+    let w = at-loop r .loop .inv .3 in
     (omega arith, omega arith, omega arith, went-more _ _ (w .within) _ _ _ (t .0) w (t .1))
 
 returns-2 : tie.Need-returns-2 Inv-loop μ-loop
@@ -57,9 +68,10 @@ returns-2 c = (c .before .loop .inv .3, unended-end (c .before .before .before .
 
 returns-3 : tie.Need-returns-3 Inv-loop μ-loop
 returns-3 c =
-    let t = c .before .before .before .before .before .before .before .before .run-lines .ensures in
-    let w = c .before .before .before .before .before .before .before .before .before .before .before .before .before .before .loop .inv .3 in
-    (went-same _ _ (w .within) _ _ _ (t .0) (c .if1 .taken) w (t .1), went-all (c .before .before .before .before .before .before .before .before .before .before .before .before .before .before .before .before .before .before .before .args .input .now) _ (w .within) _ _ _ (t .0) (c .if1 .taken) (omega arith) (t .1))
+    let r = at-run (c .before) in
+    let t = r .run-lines .ensures in
+    let w = at-loop r .loop .inv .3 in
+    (went-same _ _ (w .within) _ _ _ (t .0) (c .if1 .taken) w (t .1), went-all (at-loop r .before .before .before .before .before .args .input .now) _ (w .within) _ _ _ (t .0) (c .if1 .taken) (omega arith) (t .1))
 
 pub run-whole-spec : {M : Type 1} → statement M
 run-whole-spec =
