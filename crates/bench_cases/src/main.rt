@@ -8,17 +8,21 @@ const LISTED: usize = 36;
 
 const FILTER: usize = 64;
 
+fn of_numbers(n: [u32; 7]) -> Geometry {
+    Geometry {
+        parts: n[0],
+        page: n[1],
+        pages: n[2],
+        kept: n[3],
+        bits: n[4],
+        hashes: n[5],
+        list: n[6],
+    }
+}
+
 // The session's geometry with some of its numbers changed.
 fn like_g(page: u32, pages: u32, kept: u32, hashes: u32) -> Geometry {
-    Geometry {
-        parts: 0,
-        page,
-        pages,
-        kept,
-        bits: 64,
-        hashes,
-        list: 1,
-    }
+    of_numbers([0, page, pages, kept, 64, hashes, 1])
 }
 
 fn g() -> Geometry {
@@ -26,15 +30,7 @@ fn g() -> Geometry {
 }
 
 fn largest() -> Geometry {
-    Geometry {
-        parts: 8,
-        page: 4096,
-        pages: 64,
-        kept: 32,
-        bits: 65536,
-        hashes: 8,
-        list: 1024,
-    }
+    of_numbers([8, 4096, 64, 32, 65536, 8, 1024])
 }
 
 // G's needs; one byte less of memory, and of flash.

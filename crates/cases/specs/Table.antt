@@ -10,7 +10,7 @@ use Rattle.model.specs.Keys.{mixed, bitOf}
 use Rattle.model.specs.Partition.{listedOf}
 use Rattle.model.specs.Answers.{Areas, Answer, done, found, absent, shown, refused}
 use Rattle.model.specs.Text.{text}
-use Rattle.model.specs.Session.{linesOf, programAreas, printed}
+use Rattle.model.specs.Session.{linesOf, programAreas, linesPrint}
 use Rattle.model.specs.Calls.{Call, format, put, get, del, flush, partitionIn, run, replies}
 
 abbrev pub largest : Geometry
@@ -116,7 +116,7 @@ rows =
     -- "The session program": its calls, and its text over two areas of 32,768 zero bytes
     ∷ answers (session (put 1 10 ∷ put 2 20 ∷ put 3 30 ∷ put 0 40 ∷ get 2 ∷ del 2 ∷ get 2 ∷ del 3 ∷ get 3 ∷ flush 0 ∷ get 0 ∷ []))
     (ok 0 ∷ ok 0 ∷ ok 0 ∷ ok 0 ∷ ok 1 ∷ foundWith 20 1 ∷ ok 0 ∷ noneWith 0 ∷ refusedWith 14 0 ∷ foundWith 30 1 ∷ ok 1 ∷ foundWith 40 1 ∷ [])
-    ∷ answers (printed (linesOf (text input)) programAreas ∷ []) (text output ∷ [])
+    ∷ answers (linesPrint (linesOf (text input)) programAreas ∷ []) (text output ∷ [])
     ∷ []
 
 -- every row agrees

@@ -115,11 +115,11 @@ abbrev pub programAreas : Areas
 programAreas = record { memory = zeroArea; flash = zeroArea }
 
 -- all that a session prints
-unfoldable pub printed : List (List ℕ) → Areas → List ℕ
-printed [] a = []
-printed (l ∷ ls) a = linePrints l a ++ printed ls (lineLeaves l a)
+unfoldable pub linesPrint : List (List ℕ) → Areas → List ℕ
+linesPrint [] a = []
+linesPrint (l ∷ ls) a = linePrints l a ++ linesPrint ls (lineLeaves l a)
 
 -- both areas as a session leaves them
-unfoldable pub left : List (List ℕ) → Areas → Areas
-left [] a = a
-left (l ∷ ls) a = left ls (lineLeaves l a)
+unfoldable pub linesLeave : List (List ℕ) → Areas → Areas
+linesLeave [] a = a
+linesLeave (l ∷ ls) a = linesLeave ls (lineLeaves l a)

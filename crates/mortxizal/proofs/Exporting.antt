@@ -20,8 +20,9 @@ use Rattle.model.proofs.Words.{word-lt}
 use Rattle.answers.specs.declared.Viewed.{Viewed}
 use Rattle.answers.specs.Told.{viewed}
 use Rattle.answers.specs.Performs.{areas, Performs}
-use Rattle.mortxizal.specs.declared.MxAnswer.{MxAnswer}
-use Rattle.mortxizal.specs.Exported.{exported, SizeFits, Exports}
+use Rattle.exported.specs.declared.MxAnswer.{MxAnswer}
+use Rattle.exported.specs.Exported.{exported, SizeFits}
+use Rattle.mortxizal.specs.Exports.{Exports}
 
 pub exporting : (c : Call) (m f : List ℕ) (r : Answer) (m′ f′ : List ℕ) (x : MxAnswer) → Performs c m f r m′ f′ → x ≡ exported r → Exports c m f x m′ f′
 exporting c m f r m′ f′ x p e = record { answers = e ∙ ap exported (p .answers); leaves = p .leaves }

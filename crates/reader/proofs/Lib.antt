@@ -1,3 +1,1 @@
-pub mod Texts
-pub mod Reading
-pub mod Steps
+pub mod Forms

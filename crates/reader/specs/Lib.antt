@@ -1,2 +1,2 @@
-pub mod Said
-pub mod Places
+pub mod Forms
+pub mod Threes

@@ -1,29 +1,10 @@
 // A session's line to its form.
-mod figures;
 mod read;
 
 use model::Geometry;
 pub use read::read_line;
 
-// The place behind a fixed text that stands in a line.
-pub enum Place {
-    At(usize),
-    Nowhere,
-}
-
-// A number in a line and the place behind it.
-pub enum Number {
-    Read(u64, usize),
-    Bad,
-}
-
-// The same, of a number below 2^32.
-pub enum Narrow {
-    Read(u32, usize),
-    Bad,
-}
-
-// Three of them, each behind a text of its own.
+// Three numbers below 2^32, each behind a text of its own, and the place behind them.
 pub enum Three {
     Read(u32, u32, u32, usize),
     Bad,

@@ -5,16 +5,16 @@ ghost use lib.ListN.{drop};
 ghost use Rattle.model.specs.Text.{past};
 ghost use Rattle.model.specs.Calls.{Call};
 ghost use Rattle.model.specs.Session.{then, atEnd, putLine, getLine, delLine, flushLine, formatLine, callOf};
-ghost use Rattle.reader.specs.Said.{said};
-ghost use Rattle.reader.specs.Places.{ThreeFigures, threeIn, threePast};
+ghost use Rattle.reader.specs.Forms.{formCall};
+ghost use Rattle.reader.specs.Threes.{ThreeFigures, threeIn, threePast};
 use crate::Form;
-use crate::Narrow;
-use crate::Number;
-use crate::Place;
 use crate::Three;
-use crate::figures::narrow_past;
-use crate::figures::number_past;
-use crate::figures::text_past;
+use figures::Behind;
+use figures::Narrow;
+use figures::Number;
+use figures::narrow_past;
+use figures::number_past;
+use figures::text_past;
 use model::Geometry;
 
 // The largest key and the largest value.
@@ -22,9 +22,9 @@ const WIDE: u64 = 18446744073709551615;
 
 // The form, where the line ends with `text` from `at` on.
 fn ending(line: &[u8], at: usize, text: &[u8], form: Form) -> Form
-    ensures { λ r. ⌜ said r ≡ then (said form) (λ c. then (past (now (text .entry)) (drop at (now (line .entry)))) (atEnd c)) ⌝ }
+    ensures { λ r. ⌜ formCall r ≡ then (formCall form) (λ c. then (past (now (text .entry)) (drop at (now (line .entry)))) (atEnd c)) ⌝ }
 {
-    let Place::At(next) = text_past(line, at, text) else {
+    let Behind::At(next) = text_past(line, at, text) else {
         return Form::Bad;
     };
     if next < line.len() {
@@ -34,7 +34,7 @@ fn ending(line: &[u8], at: usize, text: &[u8], form: Form) -> Form
 }
 
 fn read_put(line: &[u8]) -> Form
-    ensures { λ r. ⌜ said r ≡ putLine (now (line .entry)) ⌝ }
+    ensures { λ r. ⌜ formCall r ≡ putLine (now (line .entry)) ⌝ }
 {
     let Number::Read(key, at) = number_past(line, 0, b"(put ", WIDE) else {
         return Form::Bad;
@@ -46,7 +46,7 @@ fn read_put(line: &[u8]) -> Form
 }
 
 fn read_get(line: &[u8]) -> Form
-    ensures { λ r. ⌜ said r ≡ getLine (now (line .entry)) ⌝ }
+    ensures { λ r. ⌜ formCall r ≡ getLine (now (line .entry)) ⌝ }
 {
     let Number::Read(key, at) = number_past(line, 0, b"(get ", WIDE) else {
         return Form::Bad;
@@ -55,7 +55,7 @@ fn read_get(line: &[u8]) -> Form
 }
 
 fn read_del(line: &[u8]) -> Form
-    ensures { λ r. ⌜ said r ≡ delLine (now (line .entry)) ⌝ }
+    ensures { λ r. ⌜ formCall r ≡ delLine (now (line .entry)) ⌝ }
 {
     let Number::Read(key, at) = number_past(line, 0, b"(del ", WIDE) else {
         return Form::Bad;
@@ -64,7 +64,7 @@ fn read_del(line: &[u8]) -> Form
 }
 
 fn read_flush(line: &[u8]) -> Form
-    ensures { λ r. ⌜ said r ≡ flushLine (now (line .entry)) ⌝ }
+    ensures { λ r. ⌜ formCall r ≡ flushLine (now (line .entry)) ⌝ }
 {
     let Narrow::Read(partition, at) = narrow_past(line, 0, b"(flush ") else {
         return Form::Bad;
@@ -89,7 +89,7 @@ fn three_past(line: &[u8], at: usize, first: &[u8], second: &[u8], third: &[u8])
 }
 
 fn read_format(line: &[u8]) -> Form
-    ensures { λ r. ⌜ said r ≡ formatLine (now (line .entry)) ⌝ }
+    ensures { λ r. ⌜ formCall r ≡ formatLine (now (line .entry)) ⌝ }
 {
     let Three::Read(parts, page, pages, at) = three_past(
         line,
@@ -126,7 +126,7 @@ fn read_format(line: &[u8]) -> Form
 
 // The form that a line says.
 pub fn read_line(line: &[u8]) -> Form
-    ensures { λ r. ⌜ said r ≡ callOf (now (line .entry)) ⌝ }
+    ensures { λ r. ⌜ formCall r ≡ callOf (now (line .entry)) ⌝ }
 {
     let form = read_put(line);
     let Form::Bad = form else {

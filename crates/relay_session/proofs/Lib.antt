@@ -1,4 +1,1 @@
-pub mod Going
-pub mod Holding
-pub mod Getting
 pub mod Reaching

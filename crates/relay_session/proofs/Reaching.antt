@@ -6,46 +6,48 @@ use native.Mathlib.Omega.{arith}
 use lib.ListN.{length, take, drop, take-append-drop, length-take}
 use lib.Seq.{take-take}
 use Rattle.model.specs.Answers.{Areas}
-use Rattle.model.specs.Session.{linesOf, left}
-use Rattle.session.specs.Lines.{Whole, longest}
-use Rattle.session.proofs.Lines.{whole-none, whole-more}
-use Rattle.session.proofs.Pieces.{left-pieces}
-use Rattle.relay_session.specs.declared.Rest.{Rest}
-use Rattle.relay_session.specs.declared.Got.{Got}
-use Rattle.relay_session.specs.declared.Next.{Next}
-use Rattle.relay_session.specs.Steps.{Went, Held, heldBytes, AtStart, gotOf, MadeOf, Within, Turned, IsSession}
-use Rattle.relay_session.proofs.Getting.{got-within}
-use Rattle.relay_session.proofs.Holding.{kept-short, kept-same}
+use Rattle.model.specs.Session.{linesOf, linesLeave}
+use Rattle.lines.specs.Lines.{Whole, longest}
+use Rattle.lines.proofs.Lines.{whole-none, whole-more}
+use Rattle.session.proofs.Pieces.{leave-pieces}
+use Rattle.held.specs.declared.Rest.{Rest}
+use Rattle.held.specs.declared.Got.{Got}
+use Rattle.pieces.specs.declared.Next.{Next}
+use Rattle.held.specs.Held.{Held, heldBytes, AtStart, gotOf, Within}
+use Rattle.pieces.specs.Pieces.{Went, MadeOf}
+use Rattle.relay_session.specs.Steps.{Turned, IsSession}
+use Rattle.held.proofs.Getting.{got-within}
+use Rattle.held.proofs.Holding.{kept-short, kept-same}
 
 -- The lines were run on a and left a′. There the bytes that are held do what the whole text does on a, whatever follows.
 pub record Reached (rest : Rest) (input : List ℕ) (a a′ : Areas) : Type 0 where
   pub lines : List ℕ
   pub whole : Whole lines
-  pub leaves : a′ ≡ left (linesOf lines) a
+  pub leaves : a′ ≡ linesLeave (linesOf lines) a
   pub text : List ℕ
-  pub carries : (more : List ℕ) → left (linesOf (heldBytes rest input ++ more)) a′ ≡ left (linesOf (text ++ more)) a
+  pub carries : (more : List ℕ) → linesLeave (linesOf (heldBytes rest input ++ more)) a′ ≡ linesLeave (linesOf (text ++ more)) a
 
 pub reached-none : (xs : List ℕ) (a : Areas) → Reached (record { at = 0; end = 0 }) xs a a
-unfolding left linesOf
+unfolding linesLeave linesOf
 reached-none xs a = record { lines = []; whole = whole-none; leaves = refl; text = []; carries = λ more. refl }
 
 -- the lines that were run come first
-goes-on : {at : ℕ} {xs : List ℕ} {a a′ : Areas} → Went at xs a a′ → (more : List ℕ) → left (linesOf (drop at xs ++ more)) a′ ≡ left (linesOf (xs ++ more)) a
+goes-on : {at : ℕ} {xs : List ℕ} {a a′ : Areas} → Went at xs a a′ → (more : List ℕ) → linesLeave (linesOf (drop at xs ++ more)) a′ ≡ linesLeave (linesOf (xs ++ more)) a
 goes-on {at} {xs} {a} w more =
     let split : xs ++ more ≡ take at xs ++ (drop at xs ++ more) = ap (λ (ys : List ℕ). ys ++ more) (sym (take-append-drop at xs)) ∙ append-assoc (take at xs) (drop at xs) more in
-    sym (rw (split, left-pieces (take at xs) (w .whole) (drop at xs ++ more) a, ← w .leaves))
+    sym (rw (split, leave-pieces (take at xs) (w .whole) (drop at xs ++ more) a, ← w .leaves))
 
 module _ {rest : Rest} {xs : List ℕ} {a a₁ : Areas} (r : Reached rest xs a a₁) where
   -- further lines are run
-  runs : {at : ℕ} {ys : List ℕ} {a₂ : Areas} → Went at ys a₁ a₂ → a₂ ≡ left (linesOf (r .lines ++ take at ys)) a
-  runs {at} {ys} w = rw (left-pieces (r .lines) (r .whole) (take at ys) a, ← r .leaves) (w .leaves)
+  runs : {at : ℕ} {ys : List ℕ} {a₂ : Areas} → Went at ys a₁ a₂ → a₂ ≡ linesLeave (linesOf (r .lines ++ take at ys)) a
+  runs {at} {ys} w = rw (leave-pieces (r .lines) (r .whole) (take at ys) a, ← r .leaves) (w .leaves)
 
   pub stops : IsSession a a₁
   stops = record { text = r .lines; leaves = r .leaves }
 
   -- what is held stands at the start of the buffer, and a turn goes on from there
   module _ {n : ℕ} {ys : List ℕ} (k : AtStart n rest xs ys) (h : Held rest xs) where
-    follows : (more : List ℕ) → left (linesOf (take n ys ++ more)) a₁ ≡ left (linesOf (r .text ++ more)) a
+    follows : (more : List ℕ) → linesLeave (linesOf (take n ys ++ more)) a₁ ≡ linesLeave (linesOf (r .text ++ more)) a
     follows more = kept-same k h .leaves more a₁ ∙ r .carries more
 
     -- the bytes up to `end` are those held and a piece
@@ -60,7 +62,7 @@ module _ {rest : Rest} {xs : List ℕ} {a a₁ : Areas} (r : Reached rest xs a a
           whole = whole-more (r .lines) _ (r .whole) (w .whole);
           leaves = runs w;
           text = r .text ++ piece;
-          carries = λ more. goes-on w more ∙ ap (λ (zs : List ℕ). left (linesOf (zs ++ more)) a₁) (pieces later keeps (rest′ .end) l) ∙ rw (append-assoc (take n ys), append-assoc (r .text)) (follows (piece ++ more));
+          carries = λ more. goes-on w more ∙ ap (λ (zs : List ℕ). linesLeave (linesOf (zs ++ more)) a₁) (pieces later keeps (rest′ .end) l) ∙ rw (append-assoc (take n ys), append-assoc (r .text)) (follows (piece ++ more));
         }
 
     pub goes : {rest′ : Rest} {later : List ℕ} {a₂ : Areas} → longest < length later → Turned (Next.On rest′) n ys a₁ later a₂ → Reached rest′ later a a₂ × Held rest′ later

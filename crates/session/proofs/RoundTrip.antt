@@ -10,7 +10,7 @@ use lib.Seq.{drop-append-seam}
 use borrow.Author.Tests.{le-leb, ne-eqb}
 use Rattle.model.specs.Geometry.{between}
 use Rattle.model.specs.Text.{decimal, leading, isPlain, numberFrom, figure}
-use Rattle.reader.proofs.Reading.{figure-is}
+use Rattle.figures.proofs.Reading.{figure-is}
 use Rattle.printer.proofs.Decimals.{figures-one, by-figures}
 
 -- ---- all of them figures

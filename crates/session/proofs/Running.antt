@@ -8,16 +8,17 @@ use lib.ListN.{length, take}
 use lib.Seq.{take-suc, take-add, length-sets}
 use Rattle.model.specs.Bytes.{mid}
 use Rattle.model.specs.Answers.{Areas}
-use Rattle.model.specs.Session.{linePrints, lineLeaves, linesOf, printed, left}
+use Rattle.model.specs.Session.{linePrints, lineLeaves, linesOf, linesPrint, linesLeave}
 use Rattle.model.proofs.Parts.{getD-mid, length-mid}
 use Rattle.printer.proofs.Printing.{puts-append}
-use Rattle.session.specs.Lines.{Unended, LineEnd, Whole}
-use Rattle.session.specs.Promises.{Applies, Ran}
-use Rattle.session.proofs.Lines.{lines-line, whole-line, whole-more}
-use Rattle.session.proofs.Pieces.{left-pieces, printed-pieces}
+use Rattle.lines.specs.Lines.{Unended, LineEnd, Whole}
+use Rattle.applying.specs.Applies.{Applies}
+use Rattle.session.specs.Promises.{Ran}
+use Rattle.lines.proofs.Lines.{lines-line, whole-line, whole-more}
+use Rattle.session.proofs.Pieces.{leave-pieces, print-pieces}
 
 pub ran-none : (a : Areas) (o : List ℕ) → Ran [] a o 0 o a
-unfolding linesOf printed left
+unfolding linesOf linesPrint linesLeave
 ran-none a o = record { fits = omega arith; prints = record { place = refl; holds = refl }; leaves = refl }
 
 -- ---- a line and the byte that ends it
@@ -25,12 +26,12 @@ abbrev ended : List ℕ → List ℕ
 ended line = line ++ 10 ∷ []
 
 module _ (line : List ℕ) (h : Unended 0 line) (a : Areas) where
-  prints-line : printed (linesOf (ended line)) a ≡ linePrints line a
-  unfolding printed linesOf
+  prints-line : linesPrint (linesOf (ended line)) a ≡ linePrints line a
+  unfolding linesPrint linesOf
   prints-line = rw (lines-line line [] h, append-nil)
 
-  leaves-line : left (linesOf (ended line)) a ≡ lineLeaves line a
-  unfolding left linesOf
+  leaves-line : linesLeave (linesOf (ended line)) a ≡ lineLeaves line a
+  unfolding linesLeave linesOf
   leaves-line = rw (lines-line line [] h)
 
 -- ---- the line that begins at `from`, and ends before the text does
@@ -56,8 +57,8 @@ module _ (xs : List ℕ) (from end : ℕ) (e : LineEnd xs from end) (l : end < l
   ran-more {a} {a₁} w r s =
       rw (line-taken) (record {
         fits = omega (arith, s .fits, simp length-sets at (ap length (r .prints .holds)));
-        prints = rw (printed-pieces (take from xs) w (ended line) a, ← r .leaves, prints-line line line-unended a₁) (puts-append (r .prints) (s .prints));
-        leaves = rw (left-pieces (take from xs) w (ended line) a, ← r .leaves, leaves-line line line-unended a₁) (s .leaves);
+        prints = rw (print-pieces (take from xs) w (ended line) a, ← r .leaves, prints-line line line-unended a₁) (puts-append (r .prints) (s .prints));
+        leaves = rw (leave-pieces (take from xs) w (ended line) a, ← r .leaves, leaves-line line line-unended a₁) (s .leaves);
       })
 
 -- the last line has no end

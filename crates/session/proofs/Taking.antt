@@ -12,11 +12,12 @@ use Rattle.model.specs.Bytes.{mid}
 use Rattle.model.specs.Answers.{Areas}
 use Rattle.model.specs.Session.{linePrints}
 use Rattle.model.proofs.Parts.{length-mid}
-use Rattle.session.specs.Lines.{Unended, LineEnd, endedLines}
-use Rattle.session.specs.Promises.{room, takenOf, Applies}
-use Rattle.session.proofs.Lines.{unended-rest}
+use Rattle.lines.specs.Lines.{Unended, LineEnd, endedLines}
+use Rattle.applying.specs.Applies.{room, Applies}
+use Rattle.session.specs.Promises.{takenOf}
+use Rattle.lines.proofs.Lines.{unended-rest}
 use Rattle.session.proofs.Running.{line-unended}
-use Rattle.session.proofs.Cutting.{unended-drop}
+use Rattle.lines.proofs.Cutting.{unended-drop}
 
 -- a line that a byte 10 ends, and what follows it
 ended-line : (line more : List ℕ) → Unended 0 line → endedLines (line ++ 10 ∷ more) ≡ line ∷ endedLines more

@@ -1,22 +1,15 @@
 // The session: one line, or all whole lines of a text, applied to two areas, with their answers as text.
 ghost use mathlib.Core.Path.{_≡_};
-ghost use Prim.Native.Nat.{_+_, _≤_};
+ghost use Prim.Native.Nat.{_+_};
 ghost use lib.Dec.{leb};
-ghost use lib.ListN.{length, take, drop};
+ghost use lib.ListN.{length, take};
 ghost use Rattle.answers.specs.Performs.{areas};
-ghost use Rattle.printer.specs.Puts.{Puts};
-ghost use Rattle.session.specs.Lines.{longest, LineEnd, Unended, Same};
-ghost use Rattle.session.specs.Promises.{room, Applies, Applied, Ran, Takes};
-use printer::write_answer;
-use printer::write_bad;
-use printer::write_written;
-use reader::Form;
+ghost use Rattle.applying.specs.Applies.{room};
+ghost use Rattle.session.specs.Promises.{Applied, Ran, Takes};
+use applying::perform;
 
 // Room for one answer: none has more than 40 bytes.
 const ROOM: usize = 64;
-
-// No form has more than 138 bytes.
-const LINE: usize = 256;
 
 // The place behind a line's answer.
 pub enum Printed {
@@ -36,20 +29,6 @@ fn has_room(out: &[u8], at: usize) -> bool
     out.len() >= ROOM && at <= out.len() - ROOM
 }
 
-fn perform(memory: &mut [u8], flash: &mut [u8], line: &[u8], out: &mut [u8], at: usize) -> usize
-    requires { ⌜ at + room ≤ length (now out) ⌝ }
-    ensures { λ r. ⌜ Applies (now (line .entry)) (areas (now (memory .entry)) (now (flash .entry))) at (now (out .entry)) r (now (out .exit)) (areas (now (memory .exit)) (now (flash .exit))) ⌝ }
-{
-    match reader::read_line(line) {
-        Form::Format(g) => write_written(out, at, index::format(memory, flash, g)),
-        Form::Put(key, value) => write_written(out, at, index::put(memory, flash, key, value)),
-        Form::Get(key) => write_answer(out, at, index::get(memory, flash, key)),
-        Form::Del(key) => write_written(out, at, index::del(memory, flash, key)),
-        Form::Flush(partition) => write_written(out, at, index::flush(memory, flash, partition)),
-        Form::Bad => write_bad(out, at),
-    }
-}
-
 // One line, without the byte that ends it; its answer goes to `out` from `at` on.
 pub fn apply_line(
     memory: &mut [u8],
@@ -66,21 +45,6 @@ pub fn apply_line(
     Printed::Until(perform(memory, flash, line, out, at))
 }
 
-// The place of the next byte 10, or the end of the input.
-fn line_end(input: &[u8], from: usize) -> usize
-    requires { ⌜ from ≤ length (now input) ⌝ }
-    ensures { λ r. ⌜ LineEnd (now (input .entry)) from r ⌝ }
-{
-    let mut i = from;
-    while i < input.len() {
-        if input[i] == b'\n' {
-            return i;
-        }
-        i += 1;
-    }
-    i
-}
-
 // The whole lines that the input opens with, as far as `out` has room for their answers.
 pub fn run_lines(memory: &mut [u8], flash: &mut [u8], input: &[u8], out: &mut [u8]) -> Progress
     ensures { λ r. ⌜ Takes (r .taken) (now (input .entry)) (areas (now (memory .entry)) (now (flash .entry))) (r .printed) (now (out .entry)) ⌝ }
@@ -89,7 +53,7 @@ pub fn run_lines(memory: &mut [u8], flash: &mut [u8], input: &[u8], out: &mut [u
     let mut taken = 0;
     let mut printed = 0;
     while has_room(out, printed) {
-        let end = line_end(input, taken);
+        let end = lines::line_end(input, taken);
         if end == input.len() {
             break;
         }
@@ -97,17 +61,4 @@ pub fn run_lines(memory: &mut [u8], flash: &mut [u8], input: &[u8], out: &mut [u
         taken = end + 1;
     }
     Progress { taken, printed }
-}
-
-// The unfinished line input[from..] moves to the start; tells its length there. A line longer than any form is cut: it stays bad, whatever follows.
-pub fn keep_rest(input: &mut [u8], from: usize) -> usize
-    ensures { λ r. ⌜ Puts (take longest (drop from (now (input .entry)))) 0 (now (input .entry)) r (now (input .exit)) ⌝ }
-    ensures { λ r. ⌜ (Unended from (now (input .entry)) → Same (drop from (now (input .entry))) (take r (now (input .exit)))) ⌝ }
-{
-    let mut n = 0;
-    while n < LINE && n < input.len() && from < input.len() - n {
-        input[n] = input[from + n];
-        n += 1;
-    }
-    n
 }

@@ -24,35 +24,23 @@ pub struct Shape {
     pub counted: bool,
 }
 
-const SMALL: Geometry = Geometry {
-    parts: 0,
-    page: 64,
-    pages: 1,
-    kept: 2,
-    bits: 64,
-    hashes: 3,
-    list: 1,
-};
+const SMALL: Geometry = geometry([0, 64, 1, 2, 64, 3, 1]);
 
-const MIDDLE: Geometry = Geometry {
-    parts: 4,
-    page: 4096,
-    pages: 16,
-    kept: 16,
-    bits: 65536,
-    hashes: 4,
-    list: 256,
-};
+const MIDDLE: Geometry = geometry([4, 4096, 16, 16, 65536, 4, 256]);
 
-const LARGEST: Geometry = Geometry {
-    parts: 8,
-    page: 4096,
-    pages: 64,
-    kept: 32,
-    bits: 65536,
-    hashes: 8,
-    list: 1024,
-};
+const LARGEST: Geometry = geometry([8, 4096, 64, 32, 65536, 8, 1024]);
+
+const fn geometry(n: [u32; 7]) -> Geometry {
+    Geometry {
+        parts: n[0],
+        page: n[1],
+        pages: n[2],
+        kept: n[3],
+        bits: n[4],
+        hashes: n[5],
+        list: n[6],
+    }
+}
 
 pub fn all() -> Vec<Shape> {
     let small = Shape {

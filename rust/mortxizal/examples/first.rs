@@ -5,16 +5,18 @@ use std::io::{self, Write};
 use mortxizal::{Geometry, Index, Lookup, Place, Refused};
 
 /// One partition, pages of 64 bytes with three entries, one page in a batch,
-/// two batches kept.
-const GEOMETRY: Geometry = Geometry {
-    parts: 0,
-    page: 64,
-    pages: 1,
-    kept: 2,
-    bits: 64,
-    hashes: 3,
-    list: 1,
-};
+/// two batches kept, one place for a deleted key.
+fn geometry() -> Geometry {
+    Geometry {
+        parts: 0,
+        page: 64,
+        pages: 1,
+        kept: 2,
+        bits: 64,
+        list: 1,
+        ..Geometry::default()
+    }
+}
 
 fn pages(written: Result<u32, Refused>) -> String {
     tell(written.map(|pages| format!("done, pages written {pages}")))
@@ -53,15 +55,16 @@ fn tell(answer: Result<String, Refused>) -> String {
 
 /// Writes what `first.c` writes.
 pub fn run(output: &mut impl Write) -> Result<(), Box<dyn std::error::Error>> {
-    let mut memory = vec![0; GEOMETRY.memory_need()?];
-    let mut flash = vec![0; GEOMETRY.flash_need()?];
+    let geometry = geometry();
+    let mut memory = vec![0; geometry.memory_need()?];
+    let mut flash = vec![0; geometry.flash_need()?];
     let (m, f) = (memory.len(), flash.len());
     writeln!(output, "{m} bytes of memory, {f} of flash")?;
 
     let index = Index::attach(&mut memory, &mut flash);
     writeln!(output, "get 1: {}", lookup(index.get(1)))?;
 
-    let mut index = Index::format(&mut memory, &mut flash, GEOMETRY)?;
+    let mut index = Index::format(&mut memory, &mut flash, geometry)?;
     writeln!(output, "format: {}", pages(Ok(0)))?;
     // With the fourth put the page is full: a flush, then the put.
     for key in 1..=4 {

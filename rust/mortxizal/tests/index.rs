@@ -6,25 +6,21 @@ use std::thread;
 use mortxizal::{raw, Geometry, Index, Lookup, Place, Refused};
 
 /// The geometry of the worked session of document 01.
-const G: Geometry = Geometry {
-    parts: 0,
-    page: 64,
-    pages: 1,
-    kept: 2,
-    bits: 64,
-    hashes: 3,
-    list: 1,
-};
+const G: Geometry = geometry([0, 64, 1, 2, 64, 3, 1]);
 
-const LARGEST: Geometry = Geometry {
-    parts: 8,
-    page: 4096,
-    pages: 64,
-    kept: 32,
-    bits: 65536,
-    hashes: 8,
-    list: 1024,
-};
+const LARGEST: Geometry = geometry([8, 4096, 64, 32, 65536, 8, 1024]);
+
+const fn geometry(n: [u32; 7]) -> Geometry {
+    Geometry {
+        parts: n[0],
+        page: n[1],
+        pages: n[2],
+        kept: n[3],
+        bits: n[4],
+        hashes: n[5],
+        list: n[6],
+    }
+}
 
 fn areas(geometry: Geometry) -> (Vec<u8>, Vec<u8>) {
     let memory = geometry.memory_need().unwrap();
@@ -134,15 +130,15 @@ fn needs_are_those_of_format() {
     assert_eq!(LARGEST.memory_need(), Ok(138_416_160));
     assert_eq!(LARGEST.flash_need(), Ok(2_147_483_648));
     for shift in 0..=8 {
-        let geometry = Geometry {
-            parts: shift % 3,
-            page: 64 << (shift % 7),
-            pages: 1 << (shift % 5),
-            kept: 1 + 3 * shift,
-            bits: 64 << shift,
-            hashes: 1 + shift % 8,
-            list: 1 + 100 * shift,
-        };
+        let geometry = geometry([
+            shift % 3,
+            64 << (shift % 7),
+            1 << (shift % 5),
+            1 + 3 * shift,
+            64 << shift,
+            1 + shift % 8,
+            1 + 100 * shift,
+        ]);
         let (mut memory, mut flash) = areas(geometry);
         let mut refused = |m: usize, f: usize| {
             let (memory, flash) = (&mut memory[m..], &mut flash[f..]);

@@ -7,10 +7,10 @@ use Rattle.printer.proofs.write_one.Statement.{statement}
 use Rattle.printer.proofs.write_one.Tie as tie
 
 write-text-requires-2 : tie.Need-write-text-requires-2
-write-text-requires-2 c κs = omega (arith, length-decimal (c .before .before .before .before .before .before .before .before .before .before .before .before .args .n))
+write-text-requires-2 c κs = let begun = c .before .before .before .before .before .before .before .before in omega (arith, length-decimal (begun .before .before .before .before .args .n))
 
 returns : tie.Need-returns
-returns c = puts-append (puts-append (c .before .before .before .before .before .before .before .before .before .before .before .write-text .ensures) (c .before .before .before .before .before .before .before .write-decimal .ensures)) (c .before .before .write-text2 .ensures)
+returns c = let wrote = c .before .before .before .before .before .before .before in puts-append (puts-append (wrote .before .before .before .before .write-text .ensures) (wrote .write-decimal .ensures)) (c .before .before .write-text2 .ensures)
 
 pub write-one-spec : {M : Type 1} → statement M
 write-one-spec = tie.close (tie.spec (λ c κs. search needs) (λ c κs. search needs) (λ c. search needs) write-text-requires-2 (λ c. search needs) returns)

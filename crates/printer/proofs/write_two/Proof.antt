@@ -8,10 +8,13 @@ use Rattle.printer.proofs.write_two.Statement.{statement}
 use Rattle.printer.proofs.write_two.Tie as tie
 
 write-one-requires : tie.Need-write-one-requires
-write-one-requires c κs = omega (arith, length-decimal (c .before .before .before .before .before .before .before .before .before .before .before .before .args .a))
+write-one-requires c κs = let begun = c .before .before .before .before .before .before .before .before in omega (arith, length-decimal (begun .before .before .before .before .args .a))
 
 returns : tie.Need-returns
-returns c = puts-three (text " ") (decimal (c .before .before .before .before .before .before .before .before .before .before .before .before .before .before .before .args .b)) (text ")\n") (puts-append (c .before .before .before .before .before .before .before .before .before .before .before .write-text .ensures) (c .before .before .before .before .before .before .before .write-decimal .ensures)) (c .before .before .write-one .ensures)
+returns c =
+    let wrote = c .before .before .before .before .before .before .before in
+    let begun = wrote .before .before .before .before in
+    puts-three (text " ") (decimal (begun .before .before .before .before .args .b)) (text ")\n") (puts-append (begun .write-text .ensures) (wrote .write-decimal .ensures)) (c .before .before .write-one .ensures)
 
 pub write-two-spec : {M : Type 1} → statement M
 write-two-spec = tie.close (tie.spec (λ c κs. search needs) (λ c κs. search needs) (λ c. search needs) write-one-requires (λ c. search needs) returns)

@@ -5,8 +5,8 @@ use lib.ListN.{length}
 use borrow.Author.Needs.{needs}
 use Rattle.model.specs.Session.{programAreas}
 use Rattle.answers.specs.Performs.{areas}
-use Rattle.relay_session.specs.Steps.{Held}
-use Rattle.relay_session.proofs.Holding.{held-none, kept-short, kept-unended}
+use Rattle.held.specs.Held.{Held}
+use Rattle.held.proofs.Holding.{held-none, kept-short, kept-unended}
 use Rattle.relay_session.proofs.Reaching.{Reached, reached-none, stops, goes, ends, fails}
 use Rattle.relay_session.proofs.run.Statement.{statement}
 use Rattle.relay_session.proofs.run.Tie as tie
@@ -31,30 +31,37 @@ hold-requires c κs = c .before .before .loop .inv .5
 
 turn-requires : tie.Need-turn-requires Inv-loop μ-loop
 turn-requires c κs =
-    let k = c .before .before .before .before .before .before .hold .ensures in
-    let h = c .before .before .before .before .before .before .before .before .before .loop .inv .5 in
+    let s = c .before .before .before .before .before .before in
+    let k = s .hold .ensures in
+    let h = s .before .before .before .loop .inv .5 in
     (omega arith, (omega (arith, kept-short k h), kept-unended k h))
 
 returns : tie.Need-returns Inv-loop μ-loop
 returns c =
-    let s = c .before .before .before .before .before .before .before .before .before .before in
-    let i = s .before .before .before .before .before .before .before .before .before .before .loop .inv in
+    let back = c .before .before in
+    let s = back .before .before .before .before .before .before .before .before in
+    let h = s .before .before .before .before .before .before .before in
+    let i = h .before .before .before .loop .inv in
     let t = rw (c .enum-told .given .1) at (s .turn .ensures) in
-    ends (i .4) (s .before .before .before .before .before .before .before .hold .ensures) (i .5) t
+    ends (i .4) (h .hold .ensures) (i .5) t
 
 returns-2 : tie.Need-returns-2 Inv-loop μ-loop
 returns-2 c =
-    let s = c .before .before .before .before .before .before .before .before .before .before in
-    let i = s .before .before .before .before .before .before .before .before .before .before .loop .inv in
+    let back = c .before .before in
+    let s = back .before .before .before .before .before .before .before .before in
+    let h = s .before .before .before .before .before .before .before in
+    let i = h .before .before .before .loop .inv in
     let t = rw (c .enum-told2 .given .1) at (s .turn .ensures) in
-    fails (i .4) (s .before .before .before .before .before .before .before .hold .ensures) (i .5) t
+    fails (i .4) (h .hold .ensures) (i .5) t
 
 loop-again : tie.Need-loop-again Inv-loop μ-loop
 loop-again c =
-    let s = c .before .before .before .before .before .before .before .before .before .before .before in
-    let i = s .before .before .before .before .before .before .before .before .before .before .loop .inv in
+    let back = c .before .before .before in
+    let s = back .before .before .before .before .before .before .before .before in
+    let h = s .before .before .before .before .before .before .before in
+    let i = h .before .before .before .loop .inv in
     let t = rw (c .before .next .given .1) at (s .turn .ensures) in
-    let g = goes (i .4) (s .before .before .before .before .before .before .before .hold .ensures) (i .5) (omega (arith, s .before .before .before .before .before .before .before .before .before .before .before .before .before .before .before .pre .1 .1 .0)) t in
+    let g = goes (i .4) (h .hold .ensures) (i .5) (omega (arith, h .before .before .before .before .before .before .before .before .pre .1 .1 .0)) t in
     (omega arith, omega arith, omega arith, omega arith, g .0, g .1)
 
 returns-3 : tie.Need-returns-3 Inv-loop μ-loop

@@ -12,7 +12,7 @@ perform-requires : tie.Need-perform-requires
 perform-requires c κs = leb-true _ _ (sym (c .before .before .before .before .has-room .ensures) ∙ not-false _ (c .before .before .before .if1 .left))
 
 returns-2 : tie.Need-returns-2
-returns-2 c = (leb-true _ _ (sym (c .before .before .before .before .before .before .before .before .before .before .before .has-room .ensures) ∙ not-false _ (c .before .before .before .before .before .before .before .before .before .before .if1 .left)), c .before .before .before .before .before .before .perform .ensures)
+returns-2 c = let done = c .before .before .before .before .before .before in (leb-true _ _ (sym (done .before .before .before .before .before .has-room .ensures) ∙ not-false _ (done .before .before .before .before .if1 .left)), done .perform .ensures)
 
 pub apply-line-spec : {M : Type 1} → statement M
 apply-line-spec = tie.close (tie.spec (λ c κs. search needs) (λ c. search needs) returns perform-requires (λ c. search needs) (λ c. search needs) (λ c. search needs) returns-2)

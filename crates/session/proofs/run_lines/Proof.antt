@@ -6,9 +6,10 @@ use lib.ListN.{length, take}
 use borrow.Author.Tests.{leb-true, leb-false}
 use borrow.Author.Needs.{needs}
 use Rattle.answers.specs.Performs.{areas}
-use Rattle.session.specs.Lines.{endedLines, Whole}
-use Rattle.session.specs.Promises.{room, takenOf, Ran}
-use Rattle.session.proofs.Lines.{whole-none}
+use Rattle.lines.specs.Lines.{endedLines, Whole}
+use Rattle.applying.specs.Applies.{room}
+use Rattle.session.specs.Promises.{takenOf, Ran}
+use Rattle.lines.proofs.Lines.{whole-none}
 use Rattle.session.proofs.Running.{ran-none, taken-more, ran-more, unended-last}
 use Rattle.session.proofs.Taking.{Goes, goes-none, goes-full, goes-all, goes-more}
 use Rattle.session.proofs.run_lines.Statement.{statement}
@@ -42,16 +43,18 @@ perform-requires c κs = enough (c .before .before .before .before .before .befo
 
 loop-again : tie.Need-loop-again Inv-loop μ-loop
 loop-again c =
-    let i = c .before .before .before .before .before .before .before .before .before .before .before .before .before .before .before .before .loop .inv in
-    let e = c .before .before .before .before .before .before .before .before .before .before .before .before .line-end .ensures in
-    let p = c .before .before .before .before .before .before .perform .ensures in (
+    let done = c .before .before .before .before .before .before in
+    let ended = done .before .before .before .before .before .before in
+    let i = ended .before .before .before .before .loop .inv in
+    let e = ended .line-end .ensures in
+    let p = done .perform .ensures in (
       omega arith,
       omega arith,
       omega arith,
       omega arith,
       taken-more _ _ _ e (omega arith) (i .4),
       ran-more _ _ _ e (omega arith) (i .4) (i .5) p,
-      goes-more (i .6) _ e (omega arith) (omega (arith, enough (c .before .before .before .before .before .before .before .before .before .before .before .before .before))) p,
+      goes-more (i .6) _ e (omega arith) (omega (arith, enough (ended .before))) p,
     )
 
 returns : tie.Need-returns Inv-loop μ-loop

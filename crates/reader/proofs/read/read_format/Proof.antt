@@ -1,12 +1,15 @@
 -- Seven numbers: three, three and one, each over what those before it left.
+use Prim.Native.Nat.{ℕ}
 use mathlib.Core.Path.{_≡_, sym, _∙_}
+use mathlib.Core.List.{List}
 use mathlib.Core.Option.{Option}
 use lib.ListN.{drop}
 use Rattle.model.specs.Text.{text}
 use Rattle.model.specs.Calls.{Call, format}
 use Rattle.model.specs.Session.{then, narrow, numberPast, ending, formatLine}
-use Rattle.reader.specs.Places.{ThreeFigures, narrowIn, threeIn, threePast}
-use Rattle.reader.proofs.Steps.{step, known-then}
+use Rattle.figures.specs.Places.{narrowIn}
+use Rattle.reader.specs.Threes.{ThreeFigures, threeIn, threePast}
+use Rattle.figures.proofs.Steps.{step, known-then}
 use borrow.Author.Needs.{needs}
 use Rattle.reader.proofs.read.read_format.Statement.{statement}
 use Rattle.reader.proofs.read.read_format.Tie as tie
@@ -29,18 +32,25 @@ after-six a b =
 abbrev after-three : ThreeFigures → Option Call
 after-three a = threePast (text ") (kept ") (text ") (bits ") (text ") (hashes ") (a .rest) (after-six a)
 
+-- the line, and where its first three numbers were read
+abbrev line : tie.After-parts → List ℕ
+line c = c .before .before .before .before .before .before .before .args .line .now
+
+abbrev at-parts : tie.After-kept → tie.After-parts
+at-parts c = c .before .before .before .before .before .before .before
+
 abbrev first-three : tie.After-parts → ThreeFigures
-first-three c = let w = c .parts .given .0 in record { first = w .0; second = w .1 .0; third = w .1 .1 .0; rest = drop (w .1 .1 .1 .0) (c .before .before .before .before .before .before .before .args .line .now) }
+first-three c = let w = c .parts .given .0 in record { first = w .0; second = w .1 .0; third = w .1 .1 .0; rest = drop (w .1 .1 .1 .0) (line c) }
 
 abbrev second-three : tie.After-kept → ThreeFigures
-second-three c = let w = c .kept .given .0 in record { first = w .0; second = w .1 .0; third = w .1 .1 .0; rest = drop (w .1 .1 .1 .0) (c .before .before .before .before .before .before .before .before .before .before .before .before .before .before .args .line .now) }
+second-three c = let w = c .kept .given .0 in record { first = w .0; second = w .1 .0; third = w .1 .1 .0; rest = drop (w .1 .1 .1 .0) (line (at-parts c)) }
 
-front : (c : tie.After-parts) → formatLine (c .before .before .before .before .before .before .before .args .line .now) ≡ after-three (first-three c)
+front : (c : tie.After-parts) → formatLine (line c) ≡ after-three (first-three c)
 unfolding formatLine
 front c = known-then (threeIn _) after-three (c .before .before .three-past .ensures after-three) (c .parts .given .1)
 
-middle : (c : tie.After-kept) → formatLine (c .before .before .before .before .before .before .before .before .before .before .before .before .before .before .args .line .now) ≡ after-six (first-three (c .before .before .before .before .before .before .before)) (second-three c)
-middle c = front (c .before .before .before .before .before .before .before) ∙ known-then (threeIn _) (after-six (first-three (c .before .before .before .before .before .before .before))) (c .before .before .three-past2 .ensures (after-six (first-three (c .before .before .before .before .before .before .before)))) (c .kept .given .1)
+middle : (c : tie.After-kept) → formatLine (line (at-parts c)) ≡ after-six (first-three (at-parts c)) (second-three c)
+middle c = front (at-parts c) ∙ known-then (threeIn _) (after-six (first-three (at-parts c))) (c .before .before .three-past2 .ensures (after-six (first-three (at-parts c)))) (c .kept .given .1)
 
 returns : tie.Need-returns
 unfolding formatLine

@@ -1,41 +1,50 @@
 -- A form that is Bad says no call, and the next is tried; the first that says one is the line's.
+use Prim.Native.Nat.{ℕ}
 use mathlib.Core.Path.{_≡_}
-use Rattle.reader.proofs.Steps.{known, first-said}
-use Rattle.reader.specs.Said.{said}
+use mathlib.Core.List.{List}
+use Rattle.figures.proofs.Steps.{known}
+use Rattle.reader.proofs.Forms.{first-call}
+use Rattle.reader.specs.Forms.{formCall}
 use Rattle.model.specs.Session.{putLine, getLine, delLine, callOf}
 use mathlib.Core.Option.{none}
 use borrow.Author.Needs.{needs}
 use Rattle.reader.proofs.read.read_line.Statement.{statement}
 use Rattle.reader.proofs.read.read_line.Tie as tie
 
-no-put : (c : tie.After-enum-told) → putLine (c .before .before .before .before .args .line .now) ≡ none
-no-put c = known said (c .before .before .read-put .ensures) (c .enum-told .given .1)
+-- the line, from where the first form was Bad
+abbrev line : tie.After-enum-told → List ℕ
+line c = c .before .before .before .before .args .line .now
 
-no-get : (c : tie.After-enum-told2) → getLine (c .before .before .before .before .before .before .before .args .line .now) ≡ none
-no-get c = known said (c .before .before .read-get .ensures) (c .enum-told2 .given .1)
+no-put : (c : tie.After-enum-told) → putLine (line c) ≡ none
+no-put c = known formCall (c .before .before .read-put .ensures) (c .enum-told .given .1)
 
-no-del : (c : tie.After-enum-told3) → delLine (c .before .before .before .before .before .before .before .before .before .before .args .line .now) ≡ none
-no-del c = known said (c .before .before .read-del .ensures) (c .enum-told3 .given .1)
+no-get : (c : tie.After-enum-told2) → getLine (line (c .before .before .before)) ≡ none
+no-get c = known formCall (c .before .before .read-get .ensures) (c .enum-told2 .given .1)
+
+no-del : (c : tie.After-enum-told3) → delLine (line (c .before .before .before .before .before .before)) ≡ none
+no-del c = known formCall (c .before .before .read-del .ensures) (c .enum-told3 .given .1)
 
 returns : tie.Need-returns
 unfolding callOf
-returns c = first-said (c .before .read-put .result) _ (c .before .read-put .ensures) (c .match .keys2)
+returns c = first-call (c .before .read-put .result) _ (c .before .read-put .ensures) (c .match .keys2)
 
 returns-2 : tie.Need-returns-2
 unfolding callOf
-returns-2 c = rw (no-put (c .before .before)) (first-said (c .before .read-get .result) _ (c .before .read-get .ensures) (c .match2 .keys2))
+returns-2 c = rw (no-put (c .before .before)) (first-call (c .before .read-get .result) _ (c .before .read-get .ensures) (c .match2 .keys2))
 
 returns-3 : tie.Need-returns-3
 unfolding callOf
-returns-3 c = rw (no-put (c .before .before .before .before .before), no-get (c .before .before)) (first-said (c .before .read-del .result) _ (c .before .read-del .ensures) (c .match3 .keys2))
+returns-3 c = rw (no-put (c .before .before .before .before .before), no-get (c .before .before)) (first-call (c .before .read-del .result) _ (c .before .read-del .ensures) (c .match3 .keys2))
 
 returns-4 : tie.Need-returns-4
 unfolding callOf
-returns-4 c = rw (no-put (c .before .before .before .before .before .before .before .before), no-get (c .before .before .before .before .before), no-del (c .before .before)) (first-said (c .before .read-flush .result) _ (c .before .read-flush .ensures) (c .match4 .keys2))
+returns-4 c = rw (no-put (c .before .before .before .before .before .before .before .before), no-get (c .before .before .before .before .before), no-del (c .before .before)) (first-call (c .before .read-flush .result) _ (c .before .read-flush .ensures) (c .match4 .keys2))
 
 returns-5 : tie.Need-returns-5
 unfolding callOf
-returns-5 c = rw (no-put (c .before .before .before .before .before .before .before .before .before .before), no-get (c .before .before .before .before .before .before .before), no-del (c .before .before .before .before), known said (c .before .before .before .read-flush .ensures) (c .before .enum-told4 .given .1)) (c .read-format .ensures)
+returns-5 c =
+    let third = c .before .before .before .before in
+    rw (no-put (third .before .before .before .before .before .before), no-get (third .before .before .before), no-del third, known formCall (c .before .before .before .read-flush .ensures) (c .before .enum-told4 .given .1)) (c .read-format .ensures)
 
 pub read-line-spec : {M : Type 1} → statement M
 read-line-spec = tie.close (tie.spec (λ c κs. search needs) (λ c. search needs) returns (λ c κs. search needs) (λ c. search needs) returns-2 (λ c κs. search needs) (λ c. search needs) returns-3 (λ c κs. search needs) (λ c. search needs) returns-4 (λ c κs. search needs) returns-5)

@@ -1,0 +1,32 @@
+-- An answer as the C interface gives it: one struct for all calls.
+use Prim.Native.Nat.{ℕ, _<_, _^_}
+use Rattle.model.specs.Answers.{Place, buffer, batch, Stretch, inMemory, inFlash, Answer, done, found, absent, shown, refused}
+use Rattle.answers.specs.declared.Viewed.{Viewed}
+use Rattle.exported.specs.declared.MxAnswer.{MxAnswer}
+
+-- status: 0 done, 1 found, 2 none, 3 refused
+abbrev pub answer : ℕ → ℕ → ℕ → ℕ → ℕ → MxAnswer
+answer status number reads from value = record { status = status; number = number; reads = reads; batch = from; value = value }
+
+-- 0 in the buffer, else the batch's number
+abbrev pub batchOf : Place → ℕ
+batchOf buffer = 0
+batchOf (batch n) = n
+
+-- a page of memory: no read; a page of flash: one
+abbrev pub stretch : Stretch → MxAnswer
+stretch (inMemory at size) = answer 0 size 0 0 at
+stretch (inFlash at size) = answer 0 size 1 1 at
+
+abbrev pub exported : Answer → MxAnswer
+exported (done pages) = answer 0 pages 0 0 0
+exported (found value reads place) = answer 1 0 reads (batchOf place) value
+exported (absent reads) = answer 2 0 reads 0 0
+exported (refused number reads) = answer 3 number reads 0 0
+exported (shown s) = stretch s
+
+-- the bytes of a page are a 32-bit number
+abbrev pub SizeFits : Viewed → Type 0
+SizeFits (Viewed.Memory at size) = size < 2 ^ 32
+SizeFits (Viewed.Flash at size) = size < 2 ^ 32
+SizeFits (Viewed.Refused r) = Unit {0}

@@ -1,0 +1,119 @@
+// An answer as the C interface gives it: one struct for all calls.
+ghost use mathlib.Core.Path.{_≡_};
+ghost use Prim.Native.Nat.{_<_, _^_};
+ghost use Rattle.model.specs.Answers.{found};
+ghost use Rattle.answers.specs.Told.{refusing, written, place, answered, viewed};
+ghost use Rattle.exported.specs.Exported.{answer, batchOf, exported, SizeFits};
+use answers::Answer;
+use answers::Hit;
+use answers::Place;
+use answers::Refusal;
+use answers::Viewed;
+use answers::Written;
+
+#[repr(C)]
+pub struct MxAnswer {
+    pub status: u32,
+    pub number: u32,
+    pub reads: u32,
+    pub batch: u32,
+    pub value: u64,
+}
+
+const DONE: u32 = 0;
+
+const FOUND: u32 = 1;
+
+const NONE: u32 = 2;
+
+const REFUSED: u32 = 3;
+
+fn of_refusal(refusal: Refusal) -> MxAnswer
+    ensures { λ r. ⌜ r ≡ exported (refusing refusal) ⌝ }
+{
+    MxAnswer {
+        status: REFUSED,
+        number: refusal.number,
+        reads: refusal.reads,
+        batch: 0,
+        value: 0,
+    }
+}
+
+pub fn of_written(outcome: Written) -> MxAnswer
+    ensures { λ r. ⌜ r ≡ exported (written outcome) ⌝ }
+{
+    match outcome {
+        Written::Done(pages) => MxAnswer {
+            status: DONE,
+            number: pages,
+            reads: 0,
+            batch: 0,
+            value: 0,
+        },
+        Written::Refused(refusal) => of_refusal(refusal),
+    }
+}
+
+fn batch_of(spot: Place) -> u32
+    ensures { λ r. ⌜ r ≡ batchOf (place spot) ⌝ }
+{
+    match spot {
+        Place::Buffer => 0,
+        Place::Batch(n) => n,
+    }
+}
+
+fn of_hit(hit: Hit) -> MxAnswer
+    ensures { λ r. ⌜ r ≡ exported (found (hit .value) (hit .reads) (place (hit .place))) ⌝ }
+{
+    let spot = hit.place;
+    MxAnswer {
+        status: FOUND,
+        number: 0,
+        reads: hit.reads,
+        batch: batch_of(spot),
+        value: hit.value,
+    }
+}
+
+pub fn of_answer(outcome: Answer) -> MxAnswer
+    ensures { λ r. ⌜ r ≡ exported (answered outcome) ⌝ }
+{
+    match outcome {
+        Answer::Found(hit) => of_hit(hit),
+        Answer::Missing(reads) => MxAnswer {
+            status: NONE,
+            number: 0,
+            reads,
+            batch: 0,
+            value: 0,
+        },
+        Answer::Refused(refusal) => of_refusal(refusal),
+    }
+}
+
+// A page of `size` bytes at `at`; `area` is 0 in memory and 1 in flash, which is also what was read of flash.
+fn of_page(area: u32, at: usize, size: usize) -> MxAnswer
+    requires { ⌜ size < 2 ^ 32 ⌝ }
+    ensures { λ r. ⌜ r ≡ answer 0 size area area at ⌝ }
+{
+    MxAnswer {
+        status: DONE,
+        number: size as u32,
+        reads: area,
+        batch: area,
+        value: at as u64,
+    }
+}
+
+pub fn of_viewed(outcome: Viewed) -> MxAnswer
+    requires { ⌜ SizeFits outcome ⌝ }
+    ensures { λ r. ⌜ r ≡ exported (viewed outcome) ⌝ }
+{
+    match outcome {
+        Viewed::Memory(at, size) => of_page(0, at, size),
+        Viewed::Flash(at, size) => of_page(1, at, size),
+        Viewed::Refused(refusal) => of_refusal(refusal),
+    }
+}

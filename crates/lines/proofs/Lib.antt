@@ -1,0 +1,4 @@
+pub mod Lines
+pub mod Longest
+pub mod Cutting
+pub mod Keeping

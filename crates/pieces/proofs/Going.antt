@@ -1,0 +1,65 @@
+-- A piece of input is run in turns, each over what the one before it left; and a last line is run alone.
+use Prim.Native.Nat.{ℕ, _+_, _-_, _≤_, _<_}
+use mathlib.Core.List.{List, [], _∷_, _++_}
+use mathlib.Core.Path.{_≡_, refl, sym, _∙_, ap}
+use native.Mathlib.Omega.{arith}
+use lib.ListN.{length, take, drop, getD, length-drop}
+use lib.Seq.{take-all, take-add, getD-drop}
+use Rattle.model.specs.Bytes.{mid}
+use Rattle.model.specs.Answers.{Areas}
+use Rattle.model.specs.Session.{lineLeaves, linesOf, linesPrint, linesLeave}
+use Rattle.lines.specs.Lines.{Unended}
+use Rattle.applying.specs.Applies.{room}
+use Rattle.session.specs.Promises.{Ran, Takes}
+use Rattle.lines.proofs.Lines.{lines-last, whole-none, whole-more}
+use Rattle.session.proofs.Pieces.{leave-pieces}
+use Rattle.pieces.specs.Pieces.{Went}
+
+pub went-none : (xs : List ℕ) (a : Areas) → Went 0 xs a a
+unfolding linesLeave linesOf
+went-none xs a = record { within = omega arith; whole = whole-none; leaves = refl }
+
+module _ (xs : List ℕ) (taken : ℕ) (inside : taken ≤ length xs) where
+  abbrev rest : List ℕ
+  rest = mid taken (length xs - taken) xs
+
+  rest-drop : rest ≡ drop taken xs
+  rest-drop = take-all (length xs - taken) (drop taken xs) (rw length-drop (omega arith))
+
+  module _ (r n : ℕ) (o : List ℕ) {b : Areas} (t : Takes r rest b n o) where
+    pub taken-within : taken + r ≤ length xs
+    taken-within = omega (arith, t .within, ap length rest-drop, length-drop taken xs)
+
+    -- a turn takes r bytes more
+    pub went-more : {a a₁ a₂ : Areas} {o′ : List ℕ} → Went taken xs a a₁ → Ran (take r rest) a₁ o n o′ a₂ → Went (taken + r) xs a a₂
+    went-more {a} w s =
+        let e : take (taken + r) xs ≡ take taken xs ++ take r rest = take-add taken r xs ∙ ap (λ (ys : List ℕ). take taken xs ++ take r ys) (sym rest-drop) in
+        record {
+          within = taken-within;
+          whole = rw e (whole-more (take taken xs) (take r rest) (w .whole) (t .whole));
+          leaves = rw (e, leave-pieces (take taken xs) (w .whole) (take r rest) a, ← w .leaves) (s .leaves);
+        }
+
+    pub went-same : {a a₁ a₂ : Areas} {o′ : List ℕ} → r ≡ 0 → Went taken xs a a₁ → Ran (take r rest) a₁ o n o′ a₂ → Went taken xs a a₂
+    went-same z w s = let e : taken + r ≡ taken = omega arith in rw e at (went-more w s)
+
+    -- a turn that takes nothing, though there is room, finds no end of a line
+    pub went-all : {a₁ a₂ : Areas} {o′ : List ℕ} → r ≡ 0 → room ≤ length o → Ran (take r rest) a₁ o n o′ a₂ → Unended taken xs
+    unfolding linesPrint linesOf
+    went-all z l s i g k e =
+        let none : n ≡ 0 = (rw z at (s .prints .place)) in
+        let u : Unended 0 rest = rw z at (t .all (omega arith)) in
+        (rw rest-drop at u) (i - taken) (omega arith) (rw length-drop (omega arith)) (getD-drop taken xs (i - taken) 0 ∙ ap (λ (j : ℕ). getD xs j 0) (omega arith) ∙ e)
+
+pub unended-end : (xs : List ℕ) (n : ℕ) → length xs ≤ n → Unended n xs
+unended-end xs n l i g k = absurd (omega arith)
+
+-- ---- the last line
+pub leaves-none : (line : List ℕ) (a : Areas) → length line ≡ 0 → a ≡ linesLeave (linesOf line) a
+unfolding linesLeave linesOf
+leaves-none [] a e = refl
+leaves-none (x ∷ xs) a e = absurd (omega arith)
+
+pub leaves-last : (line : List ℕ) (a a′ : Areas) → Unended 0 line → 0 < length line → a′ ≡ lineLeaves line a → a′ ≡ linesLeave (linesOf line) a
+unfolding linesLeave
+leaves-last line a a′ h l e = rw (lines-last line l h) e
