@@ -20,8 +20,8 @@ stretch (inFlash at size) = answer 0 size 1 1 at
 
 abbrev pub exported : Answer → MxAnswer
 exported (done pages) = answer 0 pages 0 0 0
-exported (found value reads place) = answer 1 0 reads (batchOf place) value
-exported (absent reads) = answer 2 0 reads 0 0
+exported (found value cost place) = answer 1 0 (cost .reads) (batchOf place) value
+exported (absent cost) = answer 2 0 (cost .reads) 0 0
 exported (refused number reads) = answer 3 number reads 0 0
 exported (shown s) = stretch s
 

@@ -2,7 +2,7 @@
 ghost use mathlib.Core.Path.{_≡_};
 ghost use Prim.Native.Nat.{_<_, _^_};
 ghost use Rattle.model.specs.Answers.{found};
-ghost use Rattle.answers.specs.Told.{refusing, written, place, answered, viewed};
+ghost use Rattle.answers.specs.Told.{asTally, refusing, written, place, answered, viewed};
 ghost use Rattle.exported.specs.Exported.{answer, batchOf, exported, SizeFits};
 use answers::Answer;
 use answers::Hit;
@@ -65,13 +65,14 @@ fn batch_of(spot: Place) -> u32
 }
 
 fn of_hit(hit: Hit) -> MxAnswer
-    ensures { λ r. ⌜ r ≡ exported (found (hit .value) (hit .reads) (place (hit .place))) ⌝ }
+    ensures { λ r. ⌜ r ≡ exported (found (hit .value) (asTally (hit .tally)) (place (hit .place))) ⌝ }
 {
     let spot = hit.place;
+    let tally = hit.tally;
     MxAnswer {
         status: FOUND,
         number: 0,
-        reads: hit.reads,
+        reads: tally.reads,
         batch: batch_of(spot),
         value: hit.value,
     }
@@ -82,10 +83,10 @@ pub fn of_answer(outcome: Answer) -> MxAnswer
 {
     match outcome {
         Answer::Found(hit) => of_hit(hit),
-        Answer::Missing(reads) => MxAnswer {
+        Answer::Absent(tally) => MxAnswer {
             status: NONE,
             number: 0,
-            reads,
+            reads: tally.reads,
             batch: 0,
             value: 0,
         },

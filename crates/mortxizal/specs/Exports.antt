@@ -2,14 +2,10 @@
 use Prim.Native.Nat.{ℕ}
 use mathlib.Core.List.{List}
 use mathlib.Core.Path.{_≡_}
-use Rattle.model.specs.declared.Geometry.{Geometry}
 use Rattle.model.specs.Calls.{Call, reply, after}
 use Rattle.answers.specs.Performs.{areas}
 use Rattle.exported.specs.declared.MxAnswer.{MxAnswer}
 use Rattle.exported.specs.Exported.{exported}
-
-abbrev pub geometry : ℕ → ℕ → ℕ → ℕ → ℕ → ℕ → ℕ → Geometry
-geometry s page pages kept bits hashes list = record { parts = s; page = page; pages = pages; kept = kept; bits = bits; hashes = hashes; list = list }
 
 -- the call c on m and f answers r and leaves m′ and f′
 pub record Exports (c : Call) (m f : List ℕ) (r : MxAnswer) (m′ f′ : List ℕ) : Type 0 where

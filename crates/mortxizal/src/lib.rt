@@ -1,6 +1,7 @@
 // The six calls for C: numbers, and areas as pointer and length. include/mortxizal.h declares them.
+ghost use Rattle.model.specs.Geometry.{geometry};
 ghost use Rattle.model.specs.Calls.{Call};
-ghost use Rattle.mortxizal.specs.Exports.{geometry, Exports};
+ghost use Rattle.mortxizal.specs.Exports.{Exports};
 use exported::MxAnswer;
 use exported::of_answer;
 use exported::of_viewed;
