@@ -5,7 +5,7 @@ use mathlib.Core.Path.{_≡_}
 use mathlib.Core.List.{List, [], _∷_, _++_}
 use Rattle.model.specs.declared.Geometry.{Geometry}
 use Rattle.model.specs.Bytes.{zeros}
-use Rattle.model.specs.Geometry.{capacity, memoryNeed, flashNeed}
+use Rattle.model.specs.Geometry.{geometry, G, capacity, memoryNeed, flashNeed}
 use Rattle.model.specs.Keys.{mixed, bitOf}
 use Rattle.model.specs.Partition.{listedOf}
 use Rattle.model.specs.Answers.{Areas, Answer, done, found, absent, shown, refused}
@@ -13,25 +13,24 @@ use Rattle.model.specs.Text.{text}
 use Rattle.model.specs.Session.{linesOf, programAreas, printed}
 use Rattle.model.specs.Calls.{Call, format, put, get, del, flush, partitionIn, run, replies}
 
--- the session's geometry
-abbrev pub G : Geometry
-G = record { parts = 0; page = 64; pages = 1; kept = 2; bits = 64; hashes = 3; list = 1 }
-
 abbrev pub largest : Geometry
-largest = record { parts = 8; page = 4096; pages = 64; kept = 32; bits = 65536; hashes = 8; list = 1024 }
+largest = geometry 8 4096 64 32 65536 8 1024
 
--- G with one number changed
+-- G with some of its numbers changed: a page's bytes, pages, batches kept, bits set per key
+abbrev pub like : ℕ → ℕ → ℕ → ℕ → Geometry
+like P Q K h = geometry 0 P Q K 64 h 1
+
 abbrev pub withKept : ℕ → Geometry
-withKept n = record { parts = 0; page = 64; pages = 1; kept = n; bits = 64; hashes = 3; list = 1 }
+withKept n = like 64 1 n 3
 
 abbrev pub withHashes : ℕ → Geometry
-withHashes n = record { parts = 0; page = 64; pages = 1; kept = 2; bits = 64; hashes = n; list = 1 }
+withHashes n = like 64 1 2 n
 
 abbrev pub withPages : ℕ → Geometry
-withPages n = record { parts = 0; page = 64; pages = n; kept = 2; bits = 64; hashes = 3; list = 1 }
+withPages n = like 64 n 2 3
 
 abbrev pub withPage : ℕ → Geometry
-withPage n = record { parts = 0; page = n; pages = 1; kept = 2; bits = 64; hashes = 3; list = 1 }
+withPage n = like n 1 2 3
 
 abbrev pub areas : ℕ → ℕ → Areas
 areas m f = record { memory = zeros m; flash = zeros f }
@@ -51,8 +50,8 @@ refusedWith number reads = 3 ∷ number ∷ reads ∷ []
 
 abbrev pub figures : Answer → List ℕ
 figures (done n) = ok n
-figures (found v r p) = foundWith v r
-figures (absent r) = noneWith r
+figures (found v c p) = foundWith v (c .reads)
+figures (absent c) = noneWith (c .reads)
 figures (shown s) = []
 figures (refused n r) = refusedWith n r
 

@@ -1,109 +1,118 @@
--- What a turn through the batches shows of `readThrough` over `passingFrom`, and what an expected page's head says of its entries.
-use Prim.Native.Nat.{ℕ, zero, suc, _+_, _-_, _*_, _^_, _≤_, _<_}
-use mathlib.Core.Bool.{Bool, true, false, _&&_, false≢true}
+-- The whole answer of a get from flash is at all times the answer from here on: each step through the batches and through a page's entries keeps it so.
+use Prim.Native.Nat.{ℕ, _+_, _-_, _*_, _≤_, _<_}
+use mathlib.Core.Bool.{Bool, true, false}
 use mathlib.Core.List.{List}
-use mathlib.Core.Path.{_≡_, refl, sym, _∙_}
-use native.Mathlib.Nat.{add-assoc}
+use mathlib.Core.Path.{_≡_, sym, _∙_}
+use native.Mathlib.Nat.{add-zero, add-assoc}
 use native.Mathlib.Omega.{arith}
-use lib.Dec.{eqb, leb}
+use lib.Dec.{eqb}
 use borrow.Author.Tests.{leb-true, eq-eqb, ne-eqb}
 use Rattle.model.specs.declared.Geometry.{Geometry}
 use Rattle.model.specs.Bytes.{word, mid}
 use Rattle.model.specs.Search.{firstFrom}
-use Rattle.model.specs.Geometry.{allowed, capacity, slotPageAt, flashNeed}
+use Rattle.model.specs.Geometry.{allowed, partitions, capacity, slotPageAt, flashNeed}
 use Rattle.model.specs.Keys.{mixed, partitionOf, pageOf}
 use Rattle.model.specs.Records.{keyAt}
-use Rattle.model.specs.Page.{countOf, searched, expected}
+use Rattle.model.specs.Page.{countOf, expected}
 use Rattle.model.specs.Filter.{passes}
-use Rattle.model.specs.Partition.{slot, filterOf, passingFrom}
-use Rattle.model.specs.Answers.{Answer, found, absent, refused, Place, batch}
-use Rattle.model.specs.Get.{batchPage, hitIn, readThrough}
+use Rattle.model.specs.Partition.{headOf, flushesOf, slot, live, slotBits, batchPasses, passing, passingFrom}
+use Rattle.model.specs.Answers.{Answer, found, absent, refused, tally, batch}
+use Rattle.model.specs.Get.{hitIn, readThrough}
+use Rattle.model.proofs.Passing.{pass-take, pass-skip, pass-end, batch-asked, passing-from}
 use Rattle.model.proofs.Searching.{first-here, first-next, first-end}
-use Rattle.model.proofs.Sizes.{sizes, slot-lt, partition-of-lt, page-of-lt, slot-page-fits, flash-max}
+use Rattle.model.proofs.Sizes.{sizes, slot-lt, slot-page-fits, flash-max}
+use Rattle.model.proofs.Tests.{both-true}
 use Rattle.model.proofs.Words.{word-mid}
 use Rattle.records.specs.Lacking.{Lacking}
 use Rattle.records.proofs.Blocks.{first-behind}
 
-first-of : (a b : Bool) → (a && b) ≡ true → a ≡ true
-first-of true b h = refl
-first-of false b h = absurd (false≢true h)
-
 -- the used entries of a page with an expected head fit it
-pub expected-fits : (g : Geometry) → allowed g ≡ true → (t n q : ℕ) (p : List ℕ) → expected g t n q p ≡ true → 16 + 16 * countOf p ≤ g .page
+expected-fits : (g : Geometry) → allowed g ≡ true → (t n q : ℕ) (p : List ℕ) → expected g t n q p ≡ true → 16 + 16 * countOf p ≤ g .page
 unfolding expected
 expected-fits g ok t n q p h =
     let z = sizes g ok in
-    let u1 = leb (countOf p) (capacity g) in
-    let u2 = u1 && eqb (word 2 p 2) q in
-    let u3 = u2 && eqb (word 2 p 4) t in
-    let u4 = u3 && eqb (word 2 p 6) 0 in
-    let l = leb-true (countOf p) (capacity g) (first-of u1 _ (first-of u2 _ (first-of u3 _ (first-of u4 _ h)))) in
+    let four = both-true _ (eqb (word 4 p 8) n) h .0 in
+    let three = both-true _ (eqb (word 2 p 6) 0) four .0 in
+    let two = both-true _ (eqb (word 2 p 4) t) three .0 in
+    let l = leb-true (countOf p) (capacity g) (both-true _ (eqb (word 2 p 2) q) two .0) in
     omega arith
 
--- where a turn's page lies
-pub page-in-flash : (g : Geometry) (k : ℕ) → allowed g ≡ true → k < 2 ^ 64 → (n : ℕ) → let e = slotPageAt g (partitionOf g k) (slot g n) (pageOf g k) + g .page in (e ≤ flashNeed g) × (e ≤ 2147483648)
-page-in-flash g k ok l n =
-    let h = slot-page-fits g (partitionOf g k) (slot g n) (pageOf g k) (partition-of-lt g ok k l) (slot-lt g ok n) (page-of-lt g ok k) in
-    (h, omega (arith, flash-max g ok))
+module _ (g : Geometry) (ok : allowed g ≡ true) (at : ℕ) where
+  -- a page of flash opens with its count
+  count-in : (f : List ℕ) → countOf (mid at (g .page) f) ≡ word 2 f at
+  count-in f = let z = sizes g ok in let small : 0 + 2 ≤ g .page = omega arith in rw (word-mid 2 f at (g .page) 0 small, add-zero)
 
--- ---- through a page: what its entries from i on answer, and otherwise
-unfoldable pub fromEntry : ℕ → ℕ → List ℕ → ℕ → ℕ → Place → Answer → ℕ → ℕ → Answer
-fromEntry at size f k reads place later end i = hitIn (mid at size f) reads place (firstFrom (end - i) i (λ r. eqb (keyAt (mid at size f) r) k)) later
+  -- where the page of batch n lies
+  pub page-in-flash : (t n q : ℕ) → t < partitions g → q < g .pages → at ≡ slotPageAt g t (slot g n) q → (at + g .page ≤ flashNeed g) × (at + g .page ≤ 2147483648)
+  page-in-flash t n q lt lq e = let h = slot-page-fits g t (slot g n) q lt (slot-lt g ok n) lq in (omega arith, omega (arith, flash-max g ok))
 
-module _ (at size : ℕ) (f : List ℕ) (k reads : ℕ) (place : Place) (later : Answer) (end : ℕ) where
-  pub entry-first : end ≡ countOf (mid at size f) + 1 → hitIn (mid at size f) reads place (searched k (mid at size f)) later ≡ fromEntry at size f k reads place later end 1
-  unfolding fromEntry
-  entry-first h = let e : end - 1 ≡ countOf (mid at size f) = omega arith in rw e
-
-  pub entry-hit : (i : ℕ) → i < end → 16 * i + 16 ≤ size → word 8 f (at + 16 * i) ≡ k → fromEntry at size f k reads place later end i ≡ found (word 8 f (at + 16 * i + 8)) reads place
-  unfolding fromEntry
-  entry-hit i l h e =
-      let e′ = eq-eqb (keyAt (mid at size f) i) k (word-mid 8 f at size (16 * i) (omega arith) ∙ e) in
-      rw (first-here (λ r. eqb (keyAt (mid at size f) r) k) end i l e′, word-mid 8 f at size (16 * i + 8) (omega arith), add-assoc)
-
-  pub entry-next : (i : ℕ) → i < end → 16 * i + 8 ≤ size → (word 8 f (at + 16 * i) ≡ k → ⊥) → fromEntry at size f k reads place later end i ≡ fromEntry at size f k reads place later end (i + 1)
-  unfolding fromEntry
-  entry-next i l h e =
-      let e′ = ne-eqb (keyAt (mid at size f) i) k (λ z. e (sym (word-mid 8 f at size (16 * i) h) ∙ z)) in
-      rw (first-next (λ r. eqb (keyAt (mid at size f) r) k) end i l e′)
-
-  -- the entries that are passed over lack the key
-  pub entry-behind : (n r : ℕ) → end ≡ n + 1 → 16 + 16 * n ≤ size → Lacking k (at + 16) f n r → fromEntry at size f k reads place later end 1 ≡ fromEntry at size f k reads place later end (1 + r)
-  unfolding fromEntry
-  entry-behind n r e fits h =
-      let d : end - 1 - r ≡ end - (1 + r) = omega arith in
-      let lack : (j : ℕ) → j < r → eqb (keyAt (mid at size f) (1 + j)) k ≡ false = λ j l. (let a : at + 16 * (1 + j) ≡ at + 16 + 16 * j = omega arith in rw (word-mid 8 f at size (16 * (1 + j)) (omega (arith, h .within)), a) (h .lack j l)) in
-      rw (first-behind (λ i. eqb (keyAt (mid at size f) i) k) (end - 1) 1 r lack (omega (arith, h .within)), d)
-
-  pub entry-end : (i : ℕ) → end ≤ i → fromEntry at size f k reads place later end i ≡ later
-  unfolding fromEntry
-  entry-end i l = rw (first-end (λ r. eqb (keyAt (mid at size f) r) k) end i l)
-
--- ---- through the batches
 module _ (g : Geometry) (k : ℕ) (p f : List ℕ) where
-  -- whether the key passes the filter of batch n, and batch n's page for it
-  abbrev pub passesOf : ℕ → Bool
-  passesOf n = passes g (mixed k) (filterOf g (slot g n) p)
+  abbrev pub whole : Answer
+  whole = readThrough g k f (passing g k p) 0
 
-  abbrev pub pageIn : ℕ → List ℕ
-  pageIn n = batchPage g (partitionOf g k) f n (pageOf g k)
+  -- of so many batches, from batch n down, after so many reads
+  abbrev pub AtBatch : ℕ → ℕ → ℕ → Type 0
+  AtBatch count n reads = whole ≡ readThrough g k f (passingFrom g k p count n) reads
 
-  pub read-end : (left n reads : ℕ) → left ≤ 0 → readThrough g k f (passingFrom g k p left n) reads ≡ absent reads
-  unfolding passingFrom readThrough
-  read-end zero n reads l = refl
-  read-end (suc left) n reads l = absurd (omega arith)
+  pub at-start : (count n : ℕ) → count ≡ live g (headOf p) → n ≡ flushesOf p → AtBatch count n 0
+  at-start count n ec en = rw (passing-from g k p, ec, en)
 
-  pub read-skip : (left n reads : ℕ) → 0 < left → passesOf n ≡ false → readThrough g k f (passingFrom g k p left n) reads ≡ readThrough g k f (passingFrom g k p (left - 1) (n - 1)) reads
-  unfolding passingFrom
-  read-skip zero n reads l h = absurd (omega arith)
-  read-skip (suc left) n reads l h = let e : suc left - 1 ≡ left = omega arith in rw (e, h)
+  -- the filter that is asked is that of batch n
+  pub own-filter : (n x j : ℕ) (b : Bool) → b ≡ passes g x (slotBits g p j) → x ≡ mixed k → j ≡ slot g n → b ≡ batchPasses g k p n
+  own-filter n x j b eb ex ej = rw (eb, ex, ej, batch-asked g k p n)
 
-  pub read-bad : (left n reads : ℕ) → 0 < left → passesOf n ≡ true → expected g (partitionOf g k) n (pageOf g k) (pageIn n) ≡ false → readThrough g k f (passingFrom g k p left n) reads ≡ refused 13 (reads + 1)
-  unfolding passingFrom readThrough
-  read-bad zero n reads l h x = absurd (omega arith)
-  read-bad (suc left) n reads l h x = rw (h, x)
+  -- ---- of the entries from i on of the page at `at`, of batch n, then of the batches that are left
+  unfoldable pub entriesFrom : ℕ → ℕ → ℕ → ℕ → ℕ → ℕ → ℕ → Answer
+  entriesFrom count next reads n at end i = hitIn (mid at (g .page) f) reads (batch n) (firstFrom (end - i) i (λ r. eqb (keyAt (mid at (g .page) f) r) k)) (readThrough g k f (passingFrom g k p count next) reads)
 
-  pub read-page : (left n reads : ℕ) → 0 < left → passesOf n ≡ true → expected g (partitionOf g k) n (pageOf g k) (pageIn n) ≡ true → readThrough g k f (passingFrom g k p left n) reads ≡ hitIn (pageIn n) (reads + 1) (batch n) (searched k (pageIn n)) (readThrough g k f (passingFrom g k p (left - 1) (n - 1)) (reads + 1))
-  unfolding passingFrom readThrough
-  read-page zero n reads l h x = absurd (omega arith)
-  read-page (suc left) n reads l h x = let e : suc left - 1 ≡ left = omega arith in rw (e, h, x)
+  module _ (count next reads n at end : ℕ) where
+    abbrev pub AtEntry : ℕ → Type 0
+    AtEntry i = whole ≡ entriesFrom count next reads n at end i
+
+    -- the entries that are passed over lack the key
+    pub at-behind : (entries r : ℕ) → AtEntry 1 → end ≡ entries + 1 → 16 + 16 * entries ≤ g .page → Lacking k (at + 16) f entries r → AtEntry (1 + r)
+    unfolding entriesFrom
+    at-behind entries r from e fits h =
+        let d : end - 1 - r ≡ end - (1 + r) = omega arith in
+        let lack : (j : ℕ) → j < r → eqb (keyAt (mid at (g .page) f) (1 + j)) k ≡ false = λ j l. (let a : at + 16 * (1 + j) ≡ at + 16 + 16 * j = omega arith in rw (word-mid 8 f at (g .page) (16 * (1 + j)) (omega (arith, h .within)), a) (h .lack j l)) in
+        from ∙ rw (first-behind (λ i. eqb (keyAt (mid at (g .page) f) i) k) (end - 1) 1 r lack (omega (arith, h .within)), d)
+
+    module _ (i : ℕ) (from : AtEntry i) where
+      pub at-hit : i < end → 16 * i + 16 ≤ g .page → word 8 f (at + 16 * i) ≡ k → whole ≡ found (word 8 f (at + 16 * i + 8)) (tally reads) (batch n)
+      unfolding entriesFrom
+      at-hit l h e =
+          let e′ = eq-eqb (keyAt (mid at (g .page) f) i) k (word-mid 8 f at (g .page) (16 * i) (omega arith) ∙ e) in
+          from ∙ rw (first-here (λ r. eqb (keyAt (mid at (g .page) f) r) k) end i l e′, word-mid 8 f at (g .page) (16 * i + 8) (omega arith), add-assoc)
+
+      pub at-next : i < end → 16 * i + 8 ≤ g .page → (word 8 f (at + 16 * i) ≡ k → ⊥) → AtEntry (i + 1)
+      unfolding entriesFrom
+      at-next l h e =
+          let e′ = ne-eqb (keyAt (mid at (g .page) f) i) k (λ z. e (sym (word-mid 8 f at (g .page) (16 * i) h) ∙ z)) in
+          from ∙ rw (first-next (λ r. eqb (keyAt (mid at (g .page) f) r) k) end i l e′)
+
+      pub at-last : end ≤ i → AtBatch count next reads
+      unfolding entriesFrom
+      at-last l = from ∙ rw (first-end (λ r. eqb (keyAt (mid at (g .page) f) r) k) end i l)
+
+  -- ---- of the batches from n on
+  module _ (count n reads : ℕ) (from : AtBatch count n reads) where
+    pub at-end : count ≤ 0 → whole ≡ absent (tally reads)
+    unfolding readThrough
+    at-end l = from ∙ rw (pass-end g k p count n l)
+
+    module _ (l : 0 < count) where
+      pub at-skip : batchPasses g k p n ≡ false → AtBatch (count - 1) (n - 1) reads
+      at-skip h = from ∙ rw (pass-skip g k p count n l h)
+
+      -- the filter passes: b is whether the key's page of that batch is as expected
+      module _ (h : batchPasses g k p n ≡ true) (t q at : ℕ) (et : t ≡ partitionOf g k) (eq : q ≡ pageOf g k) (ea : at ≡ slotPageAt g t (slot g n) q) (b : Bool) (eb : b ≡ expected g t n q (mid at (g .page) f)) where
+        pub at-bad : b ≡ false → whole ≡ refused 13 (reads + 1)
+        unfolding readThrough
+        at-bad x = from ∙ rw (pass-take g k p count n l h, ← et, ← eq, ← ea, ← eb, x)
+
+        pub at-page : allowed g ≡ true → (entries : ℕ) → entries ≡ word 2 f at → b ≡ true → (16 + 16 * entries ≤ g .page) × AtEntry (count - 1) (n - 1) (reads + 1) n at (entries + 1) 1
+        unfolding readThrough entriesFrom
+        at-page ok entries e x =
+            let full = count-in g ok at f in
+            let first : entries + 1 - 1 ≡ countOf (mid at (g .page) f) = omega arith in
+            (omega (arith, expected-fits g ok t n q (mid at (g .page) f) (sym eb ∙ x)), from ∙ rw (pass-take g k p count n l h, ← et, ← eq, ← ea, ← eb, x, first))

@@ -3,6 +3,7 @@ use Prim.Native.Nat.{ℕ, _+_, _≤_, _<_}
 use mathlib.Core.Bool.{true}
 use mathlib.Core.Path.{_≡_, refl, sym, _∙_}
 use mathlib.Core.List.{List}
+use mathlib.Core.Option.{Option}
 use native.Mathlib.Omega.{arith}
 use native.Mathlib.Decide.{ℕ-discrete}
 use lib.ListN.{length}
@@ -11,14 +12,14 @@ use Rattle.model.specs.Bytes.{mid, within}
 use Rattle.model.specs.Geometry.{allowed, partitions, partitionAt, stride, memoryNeed, flashNeed, slotPageAt}
 use Rattle.model.specs.Opening.{eighth}
 use Rattle.model.specs.Partition.{partition, slot}
-use Rattle.model.specs.Answers.{Areas}
-use Rattle.model.specs.Get.{batchPage}
-use Rattle.model.specs.Calls.{geometryIn, changed}
+use Rattle.model.specs.Answers.{Areas, Refusal}
+use Rattle.model.specs.Refusals.{unopened}
+use Rattle.model.specs.Calls.{geometryIn}
 use Rattle.model.proofs.Parts.{length-within, mid-within, mid-within-out}
 use Rattle.model.proofs.Words.{word-within-out}
-use Rattle.model.proofs.Sizes.{partition-from, partition-fits, partitions-apart, slot-lt}
+use Rattle.model.proofs.Sizes.{sizes, partition-from, partition-fits, partitions-apart, slot-lt}
 use Rattle.model.proofs.Partitions.{modify, modify-at, modify-off}
-use Rattle.model.proofs.PartitionsFilters.{filter-same, same-page}
+use Rattle.model.proofs.Calls.{opens, changedAt}
 use Rattle.model.proofs.PartitionsFormat.{opening-kept}
 use Rattle.history.proofs.Table.{Part}
 use Rattle.history.proofs.Shows.{ShowsPart, same-batch-page}
@@ -31,19 +32,29 @@ pub record Shows (a : Areas) (g : Geometry) (ps : ℕ → Part) : Type 0 where
   pub flashFits : flashNeed g ≤ length (a .flash)
   pub part : (t : ℕ) → t < partitions g → ShowsPart g t (partition g t (a .memory)) (a .flash) (ps t)
 
+-- the checks that every call but format begins with stop nothing
+pub shows-opens : (a : Areas) (g : Geometry) (ps : ℕ → Part) → Shows a g ps → (later : Option Refusal) → unopened a later ≡ later
+shows-opens a g ps shows = opens a (record {
+  long = omega (arith, shows .memoryFits, partition-from g 0, partition-fits g 0 (sizes g (shows .ok) .partitions-min));
+  fine = rw (shows .geometry) (shows .ok);
+  eighthZero = shows .eighthZero;
+  memoryFits = rw (shows .geometry) (shows .memoryFits);
+  flashFits = rw (shows .geometry) (shows .flashFits);
+})
+
 -- another flash whose pages of this partition are the same
 pub same-flash : {g : Geometry} {t : ℕ} {p f : List ℕ} {s : Part} (f′ : List ℕ) → allowed g ≡ true
     → ((j q : ℕ) → j < g .kept → q < g .pages → mid (slotPageAt g t j q) (g .page) f′ ≡ mid (slotPageAt g t j q) (g .page) f)
     → ShowsPart g t p f s → ShowsPart g t p f′ s
-same-flash {g} {t} {p} {f} f′ ok same shows = record {
+same-flash {g} f′ ok same shows = record {
   long = shows .long;
+  words = shows .words;
   flushes = shows .flushes;
-  countable = shows .countable;
+  live = shows .live;
   list = shows .list;
   buffer = shows .buffer;
   batch = λ n live q l. same-batch-page (same (slot g n) q (slot-lt g ok n) l) refl (shows .batch n live q l);
-  filter = λ n live. shows .filter n live
-      ∙ sym (filter-same g (batchPage g t f n) (batchPage g t f′ n) (λ q l. same-page _ _ (same (slot g n) q (slot-lt g ok n) l)));
+  filter = shows .filter;
 }
 
 -- a partition changed, and its slots
@@ -61,8 +72,8 @@ module _ (a : Areas) (g : Geometry) (ps : ℕ → Part) (shows : Shows a g ps) (
   pub shows-changed : length flash ≡ length (a .flash)
       → ((u j q : ℕ) → (u ≡ t → ⊥) → u < partitions g → j < g .kept → q < g .pages → mid (slotPageAt g u j q) (g .page) flash ≡ mid (slotPageAt g u j q) (g .page) (a .flash))
       → ShowsPart g t (c (partition g t (a .memory))) flash (c′ (ps t))
-      → Shows (changed a t c flash) g (modify t c′ ps)
-  shows-changed long same now = rw (shows .geometry) (record {
+      → Shows (changedAt a g (shows .geometry) t c flash) g (modify t c′ ps)
+  shows-changed long same now = record {
     ok = shows .ok;
     geometry = opening-kept (partitionAt g t) (stride g) c (a .memory) (partition-from g t) ∙ shows .geometry;
     eighthZero = word-within-out 4 (partitionAt g t) (stride g) c (a .memory) 28 (omega (arith, partition-from g t)) ∙ shows .eighthZero;
@@ -72,4 +83,4 @@ module _ (a : Areas) (g : Geometry) (ps : ℕ → Part) (shows : Shows a g ps) (
       | yes e ↦ rw (e, modify-at t c′ ps t refl, here (now .long)) now
       | no e ↦ rw (modify-off t c′ ps u e, elsewhere u l e) (same-flash flash (shows .ok) (λ j q. same u j q e l) (shows .part u l))
     ];
-  })
+  }

@@ -1,13 +1,13 @@
 -- What a table and its history have in common, but for the counting of pages, and that a flush keeps it.
-use Prim.Native.Nat.{ℕ, zero, suc, _+_, _-_, _≤_, min}
-use mathlib.Core.Bool.{true, false, cond}
+use Prim.Native.Nat.{ℕ, zero, suc, _-_, _≤_}
 use mathlib.Core.Path.{_≡_, refl, sym, _∙_, ap}
 use mathlib.Core.List.{List}
 use mathlib.Core.Option.{Option, none, some}
 use native.Mathlib.Omega.{arith}
 use lib.Dec.{eqb}
 use lib.ListN.{length}
-use borrow.Author.Tests.{eqb-true, eqb-false, eq-eqb}
+use native.Mathlib.Decide.{ℕ-discrete}
+use borrow.Author.Tests.{eq-eqb, ne-eqb}
 use Rattle.model.specs.declared.Geometry.{Geometry}
 use Rattle.model.specs.Geometry.{capacity}
 use Rattle.model.specs.Keys.{partitionOf, pageOf}
@@ -15,42 +15,44 @@ use Rattle.model.proofs.Tests.{numbers, either}
 use Rattle.model.proofs.Tables.{Entry, find, strike, Distinct, unless, find-strike, distinct-strike, length-strike}
 use Rattle.model.proofs.Partitions.{modify, modify-at, modify-off}
 use Rattle.history.specs.History.{Known, History, older, aged, withKey}
-use Rattle.history.proofs.Modify.{cond-both}
-use Rattle.history.proofs.Table.{Part, live, Live, flushed, expires}
+use Rattle.history.proofs.Modify.{modify-all, cond-both}
+use Rattle.history.proofs.Table.{Part, Live, expires, liveAfter, flushed}
 use Rattle.history.proofs.Told.{Told, told-same, told-flush}
 
 -- the pages of an age: the buffer at 0, then the batches, youngest first
-abbrev pub place : Part → ℕ → ℕ → List Entry
-place p zero q = p .buffer q
-place p (suc a) q = p .batch (p .flushes - a) q
+abbrev pub pagesAt : Part → ℕ → ℕ → List Entry
+pagesAt p zero q = p .buffer q
+pagesAt p (suc a) q = p .batch (p .flushes - a) q
 
 abbrev pub seen : Geometry → Part → ℕ → ℕ → Option ℕ
-seen g p k a = find k (place p a (pageOf g k))
+seen g p k a = find k (pagesAt p a (pageOf g k))
 
 abbrev pub KeyOk : Geometry → Part → ℕ → Option Known → Type 0
-KeyOk g p k w = Told (g .kept) (p .flushes) (find k (p .list)) (seen g p k) w
+KeyOk g p k w = Told (p .live) (p .flushes) (find k (p .list)) (seen g p k) w
 
 pub record PartOk (g : Geometry) (p : Part) : Type 0 where
+  pub liveKept : p .live ≤ g .kept
+  pub liveFlushed : p .live ≤ p .flushes
   pub once : Distinct (p .list)
   pub listFits : length (p .list) ≤ g .list
-  pub stamps : (j n : ℕ) → find j (p .list) ≡ some n → Live g (p .flushes) n
+  pub stamps : (j n : ℕ) → find j (p .list) ≡ some n → Live p n
   pub apart : (q : ℕ) → Distinct (p .buffer q)
   pub fits : (q : ℕ) → length (p .buffer q) ≤ capacity g
 
 pub record Agree (g : Geometry) (ps : ℕ → Part) (known : ℕ → Option Known) (lives₀ : ℕ → ℕ) : Type 0 where
   pub parts : (t : ℕ) → PartOk g (ps t)
   pub keys : (k : ℕ) → KeyOk g (ps (partitionOf g k)) k (known k)
-  pub lives : (t : ℕ) → lives₀ t ≡ live g (ps t)
+  pub lives : (t : ℕ) → lives₀ t ≡ ps t .live
 
 -- the totals do not matter here
 abbrev pub Core : (ℕ → Part) → History → Type 0
 Core ps h = Agree (h .geometry) ps (h .keys) (h .live)
 
 module _ (g : Geometry) where
-  flushed-place : (p : Part) (q a : ℕ) → place (flushed g p) (suc a) q ≡ place p a q
+  flushed-pages : (p : Part) (q a : ℕ) → pagesAt (flushed g p) (suc a) q ≡ pagesAt p a q
   unfolding flushed
-  flushed-place p q zero = ap (λ (x : ℕ → List Entry). x q) (modify-at _ _ (p .batch) (suc (p .flushes) - 0) (omega arith))
-  flushed-place p q (suc a) =
+  flushed-pages p q zero = ap (λ (x : ℕ → List Entry). x q) (modify-at _ _ (p .batch) (suc (p .flushes) - 0) (omega arith))
+  flushed-pages p q (suc a) =
       let e : suc (p .flushes) - suc a ≡ p .flushes - a = omega arith in
       ap (λ (x : ℕ → List Entry). x q) (modify-off _ _ (p .batch) (suc (p .flushes) - suc a) (omega arith)
       ∙ ap (p .batch) e)
@@ -59,27 +61,30 @@ module _ (g : Geometry) where
   unfolding flushed find
   flushed-key p k w ok told =
       told-same (find-strike _ k (p .list) (ok .once)) (λ a. refl)
-      (told-flush (seen g p k) (seen g (flushed g p) k) refl (λ a. ap (find k) (flushed-place p (pageOf g k) a)) told)
+      (told-flush (seen g p k) (seen g (flushed g p) k) refl (λ a. ap (find k) (flushed-pages p (pageOf g k) a)) (g .kept) told)
 
   -- a stamp that did not expire is still live
-  flushed-stamps : (p : Part) → PartOk g p → (j n : ℕ) → find j (strike (expires g p) (p .list)) ≡ some n → Live g (suc (p .flushes)) n
-  flushed-stamps p ok j n e = go (find j (p .list)) refl (sym (find-strike (expires g p) j (p .list) (ok .once)) ∙ e)
+  flushed-stamps : (p : Part) → PartOk g p → (j n : ℕ) → find j (strike (expires (g .kept) (p .flushes)) (p .list)) ≡ some n → Live (flushed g p) n
+  unfolding flushed
+  flushed-stamps p ok j n e = go (find j (p .list)) refl (sym (find-strike (expires (g .kept) (p .flushes)) j (p .list) (ok .once)) ∙ e)
     where
-      go : (o : Option ℕ) → find j (p .list) ≡ o → unless (expires g p) o ≡ some n → Live g (suc (p .flushes)) n
+      go : (o : Option ℕ) → find j (p .list) ≡ o → unless (expires (g .kept) (p .flushes)) o ≡ some n → Live (flushed g p) n
       go none was now = let z : _≡_ {A = ℕ} 0 1 = cc in absurd (omega arith)
-      go (some m) was now = either (expires g p m)
+      go (some m) was now = either (expires (g .kept) (p .flushes) m)
           (λ h. let z : none ≡ some n = simp h at now in let z : _≡_ {A = ℕ} 0 1 = cc in absurd (omega arith))
           (λ h.
           let same : some m ≡ some n = simp h at now in
           let e : m ≡ n = cc in
           let old = ok .stamps j m was in
-          rw (← e) (record { first = old .first; flushed = omega (arith, old .flushed); kept = omega (numbers, old .kept) }))
+          rw (← e) (record { first = old .first; flushed = omega (arith, old .flushed); near = omega (numbers, old .near, ok .liveKept) }))
 
   pub flushed-ok : (p : Part) → PartOk g p → PartOk g (flushed g p)
   unfolding flushed
   flushed-ok p ok = record {
+    liveKept = omega arith;
+    liveFlushed = omega (arith, ok .liveFlushed);
     once = distinct-strike _ (p .list) (ok .once);
-    listFits = omega (arith, length-strike (expires g p) (p .list), ok .listFits);
+    listFits = omega (arith, length-strike (expires (g .kept) (p .flushes)) (p .list), ok .listFits);
     stamps = flushed-stamps p ok;
     apart = λ q. tt;
     fits = λ q. omega arith;
@@ -90,16 +95,10 @@ unfolding modify flushed
 core-flush h t ps c =
     let g = h .geometry in
     record {
-      parts = λ u. elim (eqb u t) as (λ b. PartOk g (cond b (flushed g (ps u)) (ps u))) [
-        | true ↦ flushed-ok g (ps u) (c .parts u)
-        | false ↦ c .parts u
-      ];
+      parts = modify-all (λ u. PartOk g) t (flushed g) ps (λ u e. flushed-ok g (ps u) (c .parts u)) (λ u e. c .parts u);
       keys = λ k. cond-both (λ p w. KeyOk g p k w) (eqb (partitionOf g k) t)
           (flushed-key g _ k _ (c .parts (partitionOf g k)) (c .keys k)) (c .keys k);
-      lives = λ u. elim (eqb u t) as (λ b. cond b (min (g .kept) (h .live u + 1)) (h .live u) ≡ live g (cond b (flushed g (ps u)) (ps u))) [
-        | true ↦ omega (arith, c .lives u)
-        | false ↦ c .lives u
-      ];
+      lives = λ u. cond-both (λ (p : Part) (n : ℕ). n ≡ p .live) (eqb u t) (ap (liveAfter (g .kept)) (c .lives u)) (c .lives u);
     }
 
 -- `p′` is `p` changed for the one key `k`, of which the history then knows `w`
@@ -107,26 +106,22 @@ pub record Touch (g : Geometry) (k : ℕ) (w : Option Known) (p p′ : Part) : T
   pub ok : PartOk g p′
   pub own : KeyOk g p′ k w
   pub other : (j : ℕ) → (j ≡ k → ⊥) → (v : Option Known) → KeyOk g p j v → KeyOk g p′ j v
-  pub same : p′ .flushes ≡ p .flushes
+  pub same : p′ .live ≡ p .live
 
 module _ (h : History) (k : ℕ) (w : Option Known) (c : Part → Part) (ps : ℕ → Part) where
   pub core-touch : Core ps h → Touch (h .geometry) k w (ps (partitionOf (h .geometry) k)) (c (ps (partitionOf (h .geometry) k)))
       → Core (modify (partitionOf (h .geometry) k) c ps) (withKey k w h)
-  unfolding modify
   core-touch core touch =
       let g = h .geometry in
+      let t : ℕ = partitionOf g k in
       record {
-        parts = λ u. either (eqb u (partitionOf g k))
-            (λ e. simp e (rw (eqb-true u _ e) (touch .ok)))
-            (λ e. simp e (core .parts u));
-        keys = λ j. either (eqb j k)
-            (λ e. rw (eqb-true j k e) (simp (eq-eqb k k refl, eq-eqb (partitionOf g k) (partitionOf g k) refl) (touch .own)))
-            (λ e. simp e (either (eqb (partitionOf g j) (partitionOf g k))
-            (λ e′.
-            let same : partitionOf g j ≡ partitionOf g k = eqb-true (partitionOf g j) (partitionOf g k) e′ in
-            simp e′ (rw same (touch .other j (eqb-false j k e) _ (rw same at (core .keys j)))))
-            (λ e′. simp e′ (core .keys j))));
-        lives = λ u. either (eqb u (partitionOf g k))
-            (λ e. simp e (rw (eqb-true u _ e) (core .lives (partitionOf g k) ∙ ap (min (g .kept)) (sym (touch .same)))))
-            (λ e. simp e (core .lives u));
+        parts = modify-all (λ u. PartOk g) t c ps (λ u e. rw e (touch .ok)) (λ u e. core .parts u);
+        keys = λ j. elim (ℕ-discrete j k) [
+          | yes e ↦ rw (e, eq-eqb k k refl, modify-at t c ps t refl) (touch .own)
+          | no e ↦ rw (ne-eqb j k e) (elim (ℕ-discrete (partitionOf g j) t) [
+            | yes same ↦ rw (modify-at t c ps (partitionOf g j) same, same) (touch .other j e _ (rw same at (core .keys j)))
+            | no apart ↦ rw (modify-off t c ps (partitionOf g j) apart) (core .keys j)
+          ])
+        ];
+        lives = modify-all (λ u p. h .live u ≡ p .live) t c ps (λ u e. rw e (core .lives t ∙ sym (touch .same))) (λ u e. core .lives u);
       }

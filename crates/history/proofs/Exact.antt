@@ -1,40 +1,30 @@
--- While areas and history are in step, every live batch's filter is exactly the one made of its pages, and every stamp is a live batch.
-use Prim.Native.Nat.{ℕ, zero, suc, _+_, _-_, _*_, _≤_, _<_, min}
+-- While areas and history are in step, every live batch's filter has exactly the bits of its pages' entries, and every stamp is a live batch.
+use Prim.Native.Nat.{ℕ, zero, suc, _+_, _-_, _*_, _≤_, _<_}
 use mathlib.Core.Bool.{true}
 use mathlib.Core.Path.{_≡_, refl, sym, _∙_, ap}
 use mathlib.Core.List.{List}
 use mathlib.Core.Option.{none, some}
 use native.Mathlib.Omega.{arith}
 use native.Mathlib.Decide.{ℕ-discrete}
-use lib.Dec.{eqb, leb, ltb}
-use borrow.Author.Tests.{eqb-true, eq-eqb, lt-ltb, le-leb}
+use lib.Dec.{eqb}
+use borrow.Author.Tests.{eqb-true, eq-eqb}
 use Rattle.model.specs.declared.Geometry.{Geometry}
 use Rattle.model.specs.Bytes.{word}
 use Rattle.model.specs.Geometry.{partitions}
 use Rattle.model.specs.Records.{keyAt}
 use Rattle.model.specs.DeleteList.{stampAt}
-use Rattle.model.specs.Filter.{filterFor}
-use Rattle.model.specs.Partition.{partition, flushesOf, listedOf, listOf, filterOf, slot, live, isLive}
+use Rattle.model.specs.Partition.{partition, headOf, listedOf, listOf, slot, isLive, slotBits}
 use Rattle.model.specs.Answers.{Areas}
 use Rattle.model.specs.Get.{batchPage}
 use Rattle.model.specs.Calls.{geometryIn, partitionIn}
-use Rattle.model.proofs.Tests.{numbers, either, both-true}
-use Rattle.model.proofs.Tables.{find, Distinct}
-use Rattle.model.proofs.Entries.{entriesFrom}
+use Rattle.model.proofs.Tests.{either}
+use Rattle.model.proofs.Tables.{find, Distinct, hasBit}
+use Rattle.model.proofs.Passing.{bits-same}
+use Rattle.model.proofs.Entries.{entriesFrom, pageEntries}
 use Rattle.model.proofs.ListEntries.{listEntries}
 use Rattle.history.specs.History.{History}
-use Rattle.history.proofs.Table.{Live}
-use Rattle.history.proofs.Shows.{ShowsPart}
+use Rattle.history.proofs.Shows.{ShowsPart, live-by-head, live-by-table}
 use Rattle.history.proofs.InStep.{InStep}
-
--- a live batch by the definition, and by the three bounds
-pub live-bounds : (g : Geometry) (p : List ℕ) (F n : ℕ) → flushesOf p ≡ F → isLive g p n ≡ true → Live g F n
-live-bounds g p F n e l =
-    let both = both-true (ltb (flushesOf p - live g p) n) (leb n (flushesOf p)) l in
-    record { first = omega (numbers, both .0); flushed = omega (numbers, both .1); kept = omega (numbers, both .0) }
-
-pub bounds-live : (g : Geometry) (p : List ℕ) (F n : ℕ) → flushesOf p ≡ F → Live g F n → isLive g p n ≡ true
-bounds-live g p F n e l = rw e (simp (lt-ltb (F - min (g .kept) F) n (omega (arith, l .first, l .kept)), le-leb n F (l .flushed)))
 
 -- where no key stands twice, a search for a record's key finds that record
 find-own : (w n a i : ℕ) (xs : List ℕ) → Distinct (entriesFrom w n a xs) → a ≤ i → i < a + n → find (keyAt xs i) (entriesFrom w n a xs) ≡ some (word w xs (16 * i + 8))
@@ -56,14 +46,17 @@ module _ (a : Areas) (h : History) (inv : InStep a h) (t : ℕ) (below : t < par
   at : ShowsPart g t (partition g t (a .memory)) (a .flash) (inv .table t)
   at = inv .shows .part t below
 
-  pub filters-exact : (n : ℕ) → isLive (geometryIn a) (partitionIn a t) n ≡ true
-      → filterOf (geometryIn a) (slot (geometryIn a) n) (partitionIn a t) ≡ filterFor (geometryIn a) (batchPage (geometryIn a) t (a .flash) n)
-  filters-exact n l = rw (inv .shows .geometry) (at .filter n (live-bounds g _ _ n (at .flushes) (rw (inv .shows .geometry) at l)))
+  pub filters-exact : (n b : ℕ) → isLive (geometryIn a) (headOf (partitionIn a t)) n ≡ true → b < geometryIn a .bits
+      → slotBits (geometryIn a) (partitionIn a t) (slot (geometryIn a) n) b ≡ hasBit (geometryIn a) (λ q. pageEntries (batchPage (geometryIn a) t (a .flash) n q)) b
+  filters-exact n b l inside =
+      let live = live-by-table at n (rw (inv .shows .geometry) at l) in
+      rw (inv .shows .geometry)
+      (at .filter n b live (rw (inv .shows .geometry) at inside) ∙ sym (bits-same g _ (inv .table t .batch n) (λ q m. at .batch n live q m .page .entries) b))
 
-  pub stamps-live : (i : ℕ) → i < listedOf (partitionIn a t) → isLive (geometryIn a) (partitionIn a t) (stampAt (listOf (geometryIn a) (partitionIn a t)) i) ≡ true
+  pub stamps-live : (i : ℕ) → i < listedOf (partitionIn a t) → isLive (geometryIn a) (headOf (partitionIn a t)) (stampAt (listOf (geometryIn a) (partitionIn a t)) i) ≡ true
   stamps-live i l =
       let p : List ℕ = partition g t (a .memory) in
       let l′ : i < listedOf p = rw (inv .shows .geometry) at l in
       let once : Distinct (listEntries (listedOf p) (listOf g p)) = rw (at .list) (inv .good .core .parts t .once) in
       let own = ap (find (keyAt (listOf g p) i)) (sym (at .list)) ∙ find-own 4 (listedOf p) 0 i (listOf g p) once (omega arith) (omega arith) in
-      rw (inv .shows .geometry) (bounds-live g p _ _ (at .flushes) (inv .good .core .parts t .stamps (keyAt (listOf g p) i) _ own))
+      rw (inv .shows .geometry) (live-by-head at _ (inv .good .core .parts t .stamps (keyAt (listOf g p) i) _ own))

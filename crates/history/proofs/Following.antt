@@ -9,11 +9,12 @@ use Rattle.model.specs.Search.{isSome}
 use Rattle.model.specs.Keys.{partitionOf, pageOf}
 use Rattle.model.specs.Page.{searched, expected}
 use Rattle.model.specs.DeleteList.{listedAt}
-use Rattle.model.specs.Partition.{flushesOf, listedOf, listOf, bufferOf, live, passingFrom, passing}
-use Rattle.model.specs.Answers.{Areas, Answer, refused, buffer, batch}
-use Rattle.model.specs.Get.{batchPage, hitIn, readThrough, soughtIn, sought}
-use Rattle.model.specs.Calls.{get, geometryIn, keyPartition, checks, result, replyIf, reply}
+use Rattle.model.specs.Partition.{headOf, flushesOf, listedOf, listOf, bufferOf, live, passingFrom, passing}
+use Rattle.model.specs.Answers.{Areas, Refusal, Answer, refused, buffer, batch}
+use Rattle.model.specs.Get.{batchPage, hitIn, readThrough, sought}
+use Rattle.model.specs.Calls.{get, geometryIn, keyPartition, checks, reply}
 use Rattle.model.proofs.Tests.{either}
+use Rattle.model.proofs.Calls.{result-get, reply-refused, reply-accepted}
 use Rattle.history.specs.Reads.{readOf, batchesRead, readBy, isPassed, heldIn, AllLack, Follows}
 
 module _ (a : Areas) (k : ℕ) where
@@ -51,14 +52,16 @@ module _ (a : Areas) (k : ℕ) where
       (cond (isSome o) [] (readOf g k (a .flash) (passing g k p)))
   unfolding passing
   in-buffer (some i) = refl
-  in-buffer none = walked (live g p) (flushesOf p) 0 [] tt
+  in-buffer none = walked (live g (headOf p)) (flushesOf p) 0 [] tt
+
+  in-list : (o : Option ℕ) → listedAt (listedOf p) k (listOf g p) ≡ o → Follows a k (sought g k p (a .flash)) (readBy a k)
+  unfolding sought batchesRead
+  in-list (some i) e = rw e tt
+  in-list none e = rw e (in-buffer (searched k (bufferOf g p (pageOf g k))))
 
   pub follows : Follows a k (reply a (get k)) (readBy a k)
-  unfolding reply result sought batchesRead
-  follows = go (checks a (get k)) (listedAt (listedOf p) k (listOf g p))
+  follows = go (checks a (get k)) refl
     where
-      go : (c l : Option ℕ) → Follows a k (replyIf c (soughtIn l g k p (a .flash)))
-          (cond (isSome l) [] (cond (isSome (searched k (bufferOf g p (pageOf g k)))) [] (readOf g k (a .flash) (passing g k p))))
-      go (some n) l = tt
-      go none (some i) = tt
-      go none none = in-buffer (searched k (bufferOf g p (pageOf g k)))
+      go : (o : Option Refusal) → checks a (get k) ≡ o → Follows a k (reply a (get k)) (readBy a k)
+      go (some r) e = rw (reply-refused a (get k) r e) tt
+      go none e = rw (reply-accepted a (get k) e, result-get a g refl k) (in-list (listedAt (listedOf p) k (listOf g p)) refl)

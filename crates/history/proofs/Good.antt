@@ -37,7 +37,7 @@ empty-key : (g : Geometry) (k : ℕ) → KeyOk g empty k none
 unfolding find
 empty-key g k = absent {f = seen g empty k} (λ b l. elim b as (λ b. seen g empty k b ≡ none) [ zero ↦ refl | suc a ↦ refl ])
 
-none-listed : {g : Geometry} (j n : ℕ) → find j [] ≡ some n → Live g 0 n
+none-listed : (j n : ℕ) → find j [] ≡ some n → Live empty n
 unfolding find
 none-listed j n e = let z : _≡_ {A = ℕ} 0 1 = cc in absurd (omega arith)
 
@@ -45,9 +45,9 @@ pub good-blank : (g : Geometry) → Fine g → Good (λ t. empty) (blank g)
 good-blank g fine = record {
   fine = fine;
   core = record {
-    parts = λ t. record { once = tt; listFits = omega arith; stamps = λ j n e. none-listed j n e; apart = λ q. tt; fits = λ q. omega arith };
+    parts = λ t. record { liveKept = omega arith; liveFlushed = omega arith; once = tt; listFits = omega arith; stamps = none-listed; apart = λ q. tt; fits = λ q. omega arith };
     keys = empty-key g;
-    lives = λ t. omega arith;
+    lives = λ t. refl;
   };
   credit =
       let none-at-all = sum-same (partitions g) (λ t. 0) (λ t. entriesIn g empty) (λ t l. sum-zero (g .pages)) in

@@ -11,17 +11,19 @@ use borrow.Author.Tests.{ne-eqb}
 use Rattle.model.specs.declared.Geometry.{Geometry}
 use Rattle.model.specs.Geometry.{partitions}
 use Rattle.model.specs.Keys.{partitionOf}
-use Rattle.model.specs.Partition.{partition}
+use Rattle.model.specs.Partition.{partition, flushesOf}
 use Rattle.model.specs.Answers.{Areas, done}
 use Rattle.model.specs.Refusals.{lastFlush}
 use Rattle.model.specs.Put.{due, putIn}
 use Rattle.model.specs.Del.{deleted}
-use Rattle.model.specs.Calls.{del, put, checks, result, effect, changed}
+use Rattle.model.specs.Calls.{del, put, checks, result, effect}
 use Rattle.model.proofs.Sizes.{partition-of-lt}
 use Rattle.model.proofs.Partitions.{modify}
 use Rattle.model.proofs.PartitionsCalls.{put-kept, put-flushed}
+use Rattle.model.proofs.Checks.{refuse-none}
+use Rattle.model.proofs.Calls.{changedAt, result-put, effect-put, effect-del}
 use Rattle.model.proofs.Tests.{numbers}
-use Rattle.history.specs.History.{History, withKey, heard, note}
+use Rattle.history.specs.History.{History, withKey, putting, note}
 use Rattle.history.proofs.Modify.{modify-twice}
 use Rattle.history.proofs.Table.{Part, mustList, due as dueIn, flushed as flushedPart, stored as storedPart, deleted as deletedPart}
 use Rattle.history.proofs.Core.{flushed-ok}
@@ -30,7 +32,7 @@ use Rattle.history.proofs.Shows.{ShowsPart}
 use Rattle.history.proofs.Storing.{shows-put, shows-deleted}
 use Rattle.history.proofs.Areas.{Shows, shows-changed}
 use Rattle.history.proofs.Checking.{put-checks, del-checks, due-shown}
-use Rattle.history.proofs.InStep.{InStep, refuse-none, batchWritten, flushed-shown, changed-shown}
+use Rattle.history.proofs.InStep.{InStep, batchWritten, flushed-shown, changed-shown}
 
 module _ (a : Areas) (h : History) (inv : InStep a h) (k : ℕ) (hk : k < 2 ^ 64) where
   abbrev g : Geometry
@@ -50,7 +52,7 @@ module _ (a : Areas) (h : History) (inv : InStep a h) (k : ℕ) (hk : k < 2 ^ 64
 
   -- the key's partition changed, and flash as it was
   kept-shown : (c : List ℕ → List ℕ) (c′ : Part → Part) → ShowsPart g t (c (partition g t (a .memory))) (a .flash) (c′ s)
-      → Shows (changed a t c (a .flash)) g (modify t c′ (inv .table))
+      → Shows (changedAt a g (inv .shows .geometry) t c (a .flash)) g (modify t c′ (inv .table))
   kept-shown c c′ now = shows-changed a g (inv .table) (inv .shows) t below c c′ (a .flash) refl (λ u j q other lu lj lq. refl) now
 
   free-place : checks a (del k) ≡ none → mustList g k s ≡ true → length (s .list) < g .list
@@ -60,54 +62,47 @@ module _ (a : Areas) (h : History) (inv : InStep a h) (k : ℕ) (hk : k < 2 ^ 64
       omega (numbers, inv .good .core .parts t .listFits)
 
   pub del-keeps : checks a (del k) ≡ none → InStep (effect a (del k)) (withKey k none h)
-  unfolding effect
-  del-keeps e = record {
+  del-keeps e = rw (effect-del a g (inv .shows .geometry) k) (record {
     table = modify t (deletedPart g k) (inv .table);
-    shows = rw (inv .shows .geometry) (rw (inv .shows .geometry) at
-        (kept-shown (deleted g k) (deletedPart g k) (shows-deleted g (inv .shows .ok) t _ _ s at (inv .good .core .parts t .listFits) k hk (free-place e))));
+    shows = kept-shown (deleted g k) (deletedPart g k) (shows-deleted g (inv .shows .ok) t _ _ s at (inv .good .core .parts t) k hk (free-place e));
     good = good-del (inv .table) h (inv .good) k below (free-place e);
-  }
+  })
 
   module _ (v : ℕ) (hv : v < 2 ^ 64) where
     is-due : due g k (partition g t (a .memory)) ≡ dueIn g k s
     is-due = due-shown g (inv .shows .ok) t _ _ s at k
 
-    put-effect : (b : Bool) → dueIn g k s ≡ b → effect a (put k v) ≡ changed a t (putIn g k v) (cond b (batchWritten a g t) (a .flash))
-    unfolding effect
-    put-effect b e = rw (inv .shows .geometry, is-due, e)
-
-    put-result : (b : Bool) → dueIn g k s ≡ b → result a (put k v) ≡ done (cond b (g .pages) 0)
-    unfolding result
-    put-result b e = rw (inv .shows .geometry, is-due, e)
+    pub put-result : result a (put k v) ≡ done (cond (dueIn g k s) (g .pages) 0)
+    put-result = result-put a g (inv .shows .geometry) k v (dueIn g k s) is-due
 
     put-free : dueIn g k s ≡ false → ShowsPart g t (putIn g k v (partition g t (a .memory))) (a .flash) (storedPart g k v s)
     put-free e =
         rw (put-kept g k _ v (is-due ∙ e))
-        (shows-put g (inv .shows .ok) t _ _ s at (inv .good .core .parts t .listFits) k hk v hv (room-free g k s v (inv .good .core .parts t) e))
+        (shows-put g (inv .shows .ok) t _ _ s at (inv .good .core .parts t) k hk v hv (room-free g k s v (inv .good .core .parts t) e))
 
-    put-due : dueIn g k s ≡ true → eqb (s .flushes) lastFlush ≡ false
+    put-due : dueIn g k s ≡ true → eqb (flushesOf (partition g t (a .memory))) lastFlush ≡ false
         → ShowsPart g t (putIn g k v (partition g t (a .memory))) (batchWritten a g t) (storedPart g k v (flushedPart g s))
     put-due e more =
         rw (put-flushed g k _ v (is-due ∙ e))
-        (shows-put g (inv .shows .ok) t _ _ (flushedPart g s) (flushed-shown a h inv t below more) (flushed-ok g s (inv .good .core .parts t) .listFits) k hk v hv
+        (shows-put g (inv .shows .ok) t _ _ (flushedPart g s) (flushed-shown a h inv t below more) (flushed-ok g s (inv .good .core .parts t)) k hk v hv
         (room-flushed g k s v (inv .good .fine .someEntry)))
 
-    number-left : checks a (put k v) ≡ none → dueIn g k s ≡ true → eqb (s .flushes) lastFlush ≡ false
+    number-left : checks a (put k v) ≡ none → dueIn g k s ≡ true → eqb (flushesOf (partition g t (a .memory))) lastFlush ≡ false
     number-left e d =
-        let free = refuse-none (dueIn g k s && eqb (s .flushes) lastFlush) 16 none (sym (put-checks a g (inv .table) (inv .shows) (inv .good .core .parts) k hk v) ∙ e) .0 in
+        let free = refuse-none (dueIn g k s && eqb (flushesOf (partition g t (a .memory))) lastFlush) 16 none (sym (put-checks a g (inv .table) (inv .shows) (inv .good .core .parts) k hk v) ∙ e) .0 in
         simp d at free
 
-    pub put-keeps : checks a (put k v) ≡ none → InStep (effect a (put k v)) (note h (heard (put k v) (result a (put k v))))
+    pub put-keeps : checks a (put k v) ≡ none → InStep (effect a (put k v)) (note h (putting k v (cond (dueIn g k s) (g .pages) 0)))
     unfolding note
     put-keeps e = go (dueIn g k s) refl
       where
-        go : (b : Bool) → dueIn g k s ≡ b → InStep (effect a (put k v)) (note h (heard (put k v) (result a (put k v))))
-        go false d = rw (put-effect false d, put-result false d) (record {
+        go : (b : Bool) → dueIn g k s ≡ b → InStep (effect a (put k v)) (note h (putting k v (cond b (g .pages) 0)))
+        go false d = rw (effect-put a g (inv .shows .geometry) k v false (is-due ∙ d)) (record {
           table = modify t (storedPart g k v) (inv .table);
           shows = kept-shown (putIn g k v) (storedPart g k v) (put-free d);
           good = good-put (inv .table) h (inv .good) k v below false d;
         })
-        go true d = rw (put-effect true d, put-result true d, ne-eqb (g .pages) 0 (omega (arith, inv .good .fine .somePage))) (record {
+        go true d = rw (effect-put a g (inv .shows .geometry) k v true (is-due ∙ d), ne-eqb (g .pages) 0 (omega (arith, inv .good .fine .somePage))) (record {
           table = modify t (storedPart g k v) (modify t (flushedPart g) (inv .table));
           shows = rw (modify-twice t (storedPart g k v) (flushedPart g) (inv .table))
               (changed-shown a h inv t below (number-left e d) (putIn g k v) (λ x. storedPart g k v (flushedPart g x)) (put-due d (number-left e d)));

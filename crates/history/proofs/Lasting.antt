@@ -6,37 +6,38 @@ use mathlib.Core.List.{List, _∷_}
 use Rattle.model.specs.declared.Geometry.{Geometry}
 use Rattle.model.specs.Geometry.{partitions, capacity}
 use Rattle.model.specs.DeleteList.{stampAt}
-use Rattle.model.specs.Filter.{filterFor}
-use Rattle.model.specs.Partition.{listedOf, listOf, filterOf, slot, isLive}
+use Rattle.model.specs.Partition.{headOf, listedOf, listOf, slot, isLive, slotBits}
 use Rattle.model.specs.Answers.{Areas}
 use Rattle.model.specs.Get.{batchPage}
 use Rattle.model.specs.Calls.{Call, format, geometryIn, partitionIn, reply, run}
+use Rattle.model.proofs.Tables.{hasBit}
+use Rattle.model.proofs.Entries.{pageEntries}
 use Rattle.history.specs.History.{History, events, remember}
 use Rattle.history.specs.Claim.{Fits, AllFit, isRefused}
 use Rattle.history.proofs.InStep.{InStep}
 use Rattle.history.proofs.Demand.{in-step}
 use Rattle.history.proofs.Counts.{buffered, strong-count}
 use Rattle.history.proofs.Exact.{filters-exact, stamps-live}
-use Rattle.history.proofs.Refusing.{left, Among, refusals-left}
+use Rattle.history.proofs.Refusing.{possible, Among, refusals-possible}
 
 pub record Lasting (a : Areas) (h : History) : Type 0 where
   -- put pages × E, and Q for each entry in the buffers, is at most Q × puts
   pub count : h .putPages * capacity (h .geometry) + h .geometry .pages * buffered a ≤ h .geometry .pages * h .puts
-  -- a live batch's filter is exactly the one that is made of its pages
-  pub filters : (t n : ℕ) → t < partitions (geometryIn a) → isLive (geometryIn a) (partitionIn a t) n ≡ true
-      → filterOf (geometryIn a) (slot (geometryIn a) n) (partitionIn a t) ≡ filterFor (geometryIn a) (batchPage (geometryIn a) t (a .flash) n)
+  -- a live batch's filter has exactly the bits of the entries of its pages
+  pub filters : (t n b : ℕ) → t < partitions (geometryIn a) → isLive (geometryIn a) (headOf (partitionIn a t)) n ≡ true → b < geometryIn a .bits
+      → slotBits (geometryIn a) (partitionIn a t) (slot (geometryIn a) n) b ≡ hasBit (geometryIn a) (λ q. pageEntries (batchPage (geometryIn a) t (a .flash) n q)) b
   -- every stamp is a live batch
   pub stamps : (t i : ℕ) → t < partitions (geometryIn a) → i < listedOf (partitionIn a t)
-      → isLive (geometryIn a) (partitionIn a t) (stampAt (listOf (geometryIn a) (partitionIn a t)) i) ≡ true
+      → isLive (geometryIn a) (headOf (partitionIn a t)) (stampAt (listOf (geometryIn a) (partitionIn a t)) i) ≡ true
   -- but for a format, refusals 2, 3, 11, 12 and 13 do not come up
-  pub refusals : (c : Call) → Fits c → Among (left c) (reply a c)
+  pub refusals : (c : Call) → Fits c → Among (possible c) (reply a c)
 
 lasts : (a : Areas) (h : History) → InStep a h → Lasting a h
 lasts a h inv = record {
   count = strong-count a h inv;
-  filters = λ t n l. filters-exact a h inv t (rw (inv .shows .geometry) at l) n;
+  filters = λ t n b l. filters-exact a h inv t (rw (inv .shows .geometry) at l) n b;
   stamps = λ t i l. stamps-live a h inv t (rw (inv .shows .geometry) at l) i;
-  refusals = refusals-left a h inv;
+  refusals = refusals-possible a h inv;
 }
 
 pub lasting : (a : Areas) (h : History) (g : Geometry) → isRefused (reply a (format g)) ≡ false → (cs : List Call) → AllFit cs

@@ -1,9 +1,18 @@
--- A family changed at one index: twice, and in step with another.
+-- A family changed at one index: what holds of each member, changed twice, and in step with another.
 use Prim.Native.Nat.{ℕ}
 use mathlib.Core.Bool.{Bool, true, false, cond}
 use mathlib.Core.Path.{_≡_, refl, fun-ext}
 use lib.Dec.{eqb}
-use Rattle.model.proofs.Partitions.{modify}
+use native.Mathlib.Decide.{ℕ-discrete}
+use Rattle.model.proofs.Partitions.{modify, modify-at, modify-off}
+
+-- what holds of each member, and of the changed one
+pub modify-all : {A : Type 0} (P : ℕ → A → Type 0) (t : ℕ) (c : A → A) (f : ℕ → A) → ((u : ℕ) → u ≡ t → P u (c (f u))) → ((u : ℕ) → (u ≡ t → ⊥) → P u (f u))
+    → (u : ℕ) → P u (modify t c f u)
+modify-all P t c f at off u = elim (ℕ-discrete u t) [
+  | yes e ↦ rw (modify-at t c f u e) (at u e)
+  | no e ↦ rw (modify-off t c f u e) (off u e)
+]
 
 -- two things that hang on one test, in step
 pub cond-both : {A B : Type 0} (P : A → B → Type 0) (b : Bool) {x x′ : A} {y y′ : B}

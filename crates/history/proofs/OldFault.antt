@@ -3,17 +3,14 @@
 use mathlib.Core.Path.{_≡_, refl}
 use mathlib.Core.List.{List, [], _∷_}
 use mathlib.Core.Option.{some}
-use Rattle.model.specs.declared.Geometry.{Geometry}
 use Rattle.model.specs.Bytes.{zeros}
+use Rattle.model.specs.Geometry.{G}
 use Rattle.model.specs.Page.{searched}
 use Rattle.model.specs.Partition.{passing}
-use Rattle.model.specs.Answers.{Areas, batch, done, found, absent, refused}
+use Rattle.model.specs.Answers.{Areas, tally, batch, done, found, absent, refused}
 use Rattle.model.specs.Get.{batchPage}
 use Rattle.model.specs.Calls.{Call, format, put, get, del, flush, partitionIn, run, replies}
 use Rattle.model.proofs.Computing.{computing}
-
-abbrev G : Geometry
-G = record { parts = 0; page = 64; pages = 1; kept = 2; bits = 64; hashes = 3; list = 1 }
 
 abbrev start : Areas
 start = record { memory = zeros 144; flash = zeros 128 }
@@ -28,10 +25,10 @@ then = run start deletedThenFlushed
 -- Batch 1 still passes key 1, and its page still holds it. A get must not read it, and the list has no place for another key.
 -- With batch 3 batch 1 goes, and the place is free again.
 pub old-fault :
-    (replies start deletedThenFlushed ≡ done 0 ∷ done 0 ∷ done 1 ∷ found 10 1 (batch 1) ∷ done 0 ∷ done 0 ∷ done 1 ∷ [])
+    (replies start deletedThenFlushed ≡ done 0 ∷ done 0 ∷ done 1 ∷ found 10 (tally 1) (batch 1) ∷ done 0 ∷ done 0 ∷ done 1 ∷ [])
     × (passing G 1 (partitionIn then 0) ≡ 1 ∷ [])
     × (searched 1 (batchPage G 0 (then .flash) 1 0) ≡ some 1)
     × (replies then (get 1 ∷ del 20 ∷ put 40 30 ∷ flush 0 ∷ get 1 ∷ del 20 ∷ get 20 ∷ [])
-    ≡ absent 0 ∷ refused 14 0 ∷ done 0 ∷ done 1 ∷ absent 0 ∷ done 0 ∷ absent 0 ∷ [])
+    ≡ absent (tally 0) ∷ refused 14 0 ∷ done 0 ∷ done 1 ∷ absent (tally 0) ∷ done 0 ∷ absent (tally 0) ∷ [])
 unfolding computing
 old-fault = (refl, refl, refl, refl)

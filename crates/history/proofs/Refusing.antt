@@ -5,37 +5,41 @@ use mathlib.Core.Path.{_≡_, refl, sym}
 use mathlib.Core.List.{List, [], _∷_}
 use mathlib.Core.Option.{Option, none, some}
 use native.Mathlib.Omega.{arith}
+use native.Mathlib.Decide.{decLe}
 use lib.Dec.{eqb, ltb}
 use lib.ListN.{length}
 use borrow.Author.Tests.{ltb-true, ltb-false, not-false}
 use Rattle.model.specs.declared.Geometry.{Geometry}
 use Rattle.model.specs.Geometry.{allowed, partitions, memoryNeed, flashNeed}
 use Rattle.model.specs.Keys.{partitionOf}
-use Rattle.model.specs.Partition.{partition, isLive}
-use Rattle.model.specs.Answers.{Areas, Answer, done, found, absent, shown, refused}
+use Rattle.model.specs.Partition.{partition, headOf, flushesOf, isLive}
+use Rattle.model.specs.Answers.{Areas, Refusal, unread, Answer, done, found, absent, shown, refused}
 use Rattle.model.specs.Refusals.{refuseIf, lastFlush}
+use Rattle.model.specs.Flush.{inUse}
 use Rattle.model.specs.Format.{formatChecks}
 use Rattle.model.specs.View.{viewed}
-use Rattle.model.specs.Calls.{Call, format, put, get, del, flush, view, checks, result, replyIf, reply}
+use Rattle.model.specs.Calls.{Call, format, put, get, del, flush, view, checks, result, reply}
 use Rattle.model.proofs.Tests.{either, both-true}
 use Rattle.model.proofs.Tables.{any}
+use Rattle.model.proofs.Checks.{refuse-none, format-1, format-2, format-3, format-passes}
+use Rattle.model.proofs.Calls.{checks-format, result-format, result-put, result-del, result-flush, result-view, reply-refused, reply-accepted}
 use Rattle.history.specs.History.{History}
 use Rattle.history.specs.Claim.{Fits, said}
 use Rattle.history.proofs.Table.{Part, due, mustList}
 use Rattle.history.proofs.Pages.{page-expected}
-use Rattle.history.proofs.Checking.{bufferEmpty, put-checks, del-checks, flush-out, flush-checks, view-out, view-checks}
+use Rattle.history.proofs.Shows.{live-by-table}
+use Rattle.history.proofs.Checking.{put-checks, del-checks, flush-out, flush-checks, view-out, view-checks}
 use Rattle.history.proofs.InStep.{InStep}
 use Rattle.history.proofs.Demand.{holds}
-use Rattle.history.proofs.Exact.{live-bounds}
 
--- the refusals that are left
-abbrev pub left : Call → List ℕ
-left (format g) = 1 ∷ 2 ∷ 3 ∷ []
-left (put k v) = 16 ∷ []
-left (get k) = []
-left (del k) = 14 ∷ []
-left (flush t) = 4 ∷ 15 ∷ 16 ∷ []
-left (view t q n) = 4 ∷ 17 ∷ []
+-- the refusals that a call can meet
+abbrev pub possible : Call → List ℕ
+possible (format g) = 1 ∷ 2 ∷ 3 ∷ []
+possible (put k v) = 16 ∷ []
+possible (get k) = []
+possible (del k) = 14 ∷ []
+possible (flush t) = 4 ∷ 15 ∷ 16 ∷ []
+possible (view t q n) = 4 ∷ 17 ∷ []
 
 -- a refusal of these, with no reads
 abbrev pub Among : List ℕ → Answer → Type 0
@@ -45,10 +49,30 @@ Among ns (found v r p) = Unit {0}
 Among ns (absent r) = Unit {0}
 Among ns (shown s) = Unit {0}
 
-among-if : (ns : List ℕ) (b : Bool) (n : ℕ) (later : Option ℕ) (x : Answer) → any (eqb n) ns ≡ true → (b ≡ false → Among ns (replyIf later x))
-    → Among ns (replyIf (refuseIf b n later) x)
-among-if ns true n later x e rest = (e, refl)
-among-if ns false n later x e rest = rest refl
+-- the same of what checks say
+abbrev Give : List ℕ → Option Refusal → Type 0
+Give ns none = Unit {0}
+Give ns (some r) = Among ns (refused (r .number) (r .reads))
+
+give-if : (ns : List ℕ) (b : Bool) (n : ℕ) (later : Option Refusal) → any (eqb n) ns ≡ true → Give ns later → Give ns (refuseIf b n later)
+give-if ns true n later e rest = (e, refl)
+give-if ns false n later e rest = rest
+
+among : (a : Areas) (c : Call) (ns : List ℕ) (o : Option Refusal) → checks a c ≡ o → Give ns o → (o ≡ none → Among ns (result a c)) → Among ns (reply a c)
+among a c ns (some r) e given ends = rw (reply-refused a c r e) given
+among a c ns none e given ends = rw (reply-accepted a c e) (ends refl)
+
+format-gives : (a : Areas) (g : Geometry) → Give (1 ∷ 2 ∷ 3 ∷ []) (formatChecks g a)
+unfolding any
+format-gives a g = either (allowed g)
+    (λ ok. elim (decLe (memoryNeed g) (length (a .memory))) [
+      | yes m ↦ elim (decLe (flashNeed g) (length (a .flash))) [
+        | yes f ↦ rw (format-passes g a ok m f) tt
+        | no f ↦ rw (format-3 g a ok m (omega arith)) (refl, refl)
+      ]
+      | no m ↦ rw (format-2 g a ok (omega arith)) (refl, refl)
+    ])
+    (λ no. rw (format-1 g a no) (refl, refl))
 
 accepted : (x : Answer) (v : Option ℕ) → said x ≡ some v → Among [] x
 accepted (done n) v e = tt
@@ -62,48 +86,48 @@ module _ (a : Areas) (h : History) (inv : InStep a h) where
   g = h .geometry
 
   -- a page of a live batch is as it must be
-  view-left : (t q n : ℕ) → t < partitions g → q < g .pages → not (eqb n 0) && not (isLive g (partition g t (a .memory)) n) ≡ false
+  page-shown : (t q n : ℕ) → t < partitions g → q < g .pages → not (eqb n 0) && not (isLive g (headOf (partition g t (a .memory))) n) ≡ false
       → Among (4 ∷ 17 ∷ []) (viewed g t q n (a .flash))
   unfolding viewed
-  view-left t q n lt lq e = either (eqb n 0)
+  page-shown t q n lt lq e = either (eqb n 0)
       (λ z. rw z tt)
       (λ z.
       let at = inv .shows .part t lt in
-      let l : isLive g (partition g t (a .memory)) n ≡ true = not-false _ (simp z at e) in
-      let page = at .batch n (live-bounds g _ _ n (at .flushes) l) q lq in
+      let page = at .batch n (live-by-table at n (not-false _ (simp z at e))) q lq in
       rw (z, page-expected (page .page) n (page .flush)) tt)
+
+  abbrev p : ℕ → List ℕ
+  p t = partition g t (a .memory)
 
   abbrev of : ℕ → Part
   of k = inv .table (partitionOf g k)
 
-  pub refusals-left : (c : Call) → Fits c → Among (left c) (reply a c)
-  unfolding reply checks formatChecks result any
-  refusals-left (format g′) fits =
-      among-if _ (not (allowed g′)) 1 _ _ refl
-      (λ x. among-if _ (ltb (length (a .memory)) (memoryNeed g′)) 2 _ _ refl
-      (λ y. among-if _ (ltb (length (a .flash)) (flashNeed g′)) 3 none _ refl (λ z. tt)))
-  refusals-left (put k v) fits =
-      rw (put-checks a g (inv .table) (inv .shows) (inv .good .core .parts) k (fits .0) v)
-      (among-if (16 ∷ []) (due g k (of k) && eqb (of k .flushes) lastFlush) 16 none (result a (put k v)) refl (λ x. tt))
-  refusals-left (get k) fits = accepted (reply a (get k)) _ (holds a h inv .each k fits .says)
-  refusals-left (del k) fits =
-      rw (del-checks a g (inv .table) (inv .shows) (inv .good .core .parts) k fits)
-      (among-if (14 ∷ []) (mustList g k (of k) && eqb (length (of k .list)) (g .list)) 14 none (done 0) refl (λ x. tt))
-  refusals-left (flush t) fits = either (ltb t (partitions g))
+  pub refusals-possible : (c : Call) → Fits c → Among (possible c) (reply a c)
+  unfolding any
+  refusals-possible (format g′) fits = among a (format g′) _ _ (checks-format a g′) (format-gives a g′) (λ e. rw (result-format a g′) tt)
+  refusals-possible (put k v) fits = among a (put k v) _ _ (put-checks a g (inv .table) (inv .shows) (inv .good .core .parts) k (fits .0) v)
+      (give-if (16 ∷ []) (due g k (of k) && eqb (flushesOf (p (partitionOf g k))) lastFlush) 16 none refl tt) (λ e. rw (result-put a _ refl k v _ refl) tt)
+  refusals-possible (get k) fits = accepted (reply a (get k)) _ (holds a h inv .each k fits .says)
+  refusals-possible (del k) fits = among a (del k) _ _ (del-checks a g (inv .table) (inv .shows) (inv .good .core .parts) k fits)
+      (give-if (14 ∷ []) (mustList g k (of k) && eqb (length (of k .list)) (g .list)) 14 none refl tt) (λ e. rw (result-del a k) tt)
+  refusals-possible (flush t) fits = either (ltb t (partitions g))
       (λ l.
-      let last = eqb (inv .table t .flushes) lastFlush in
-      rw (flush-checks a g (inv .table) (inv .shows) (inv .good .core .parts) t (ltb-true t (partitions g) l))
-      (among-if (4 ∷ 15 ∷ 16 ∷ []) (bufferEmpty g (partition g t (a .memory))) 15 (refuseIf last 16 none) (result a (flush t)) refl
-      (λ x. among-if (4 ∷ 15 ∷ 16 ∷ []) last 16 none (result a (flush t)) refl (λ y. tt))))
-      (λ l. rw (flush-out a g (inv .table) (inv .shows) (inv .good .core .parts) t (ltb-false t (partitions g) l)) (refl, refl))
-  refusals-left (view t q n) fits = either (ltb t (partitions g) && ltb q (g .pages))
+      let ns : List ℕ = 4 ∷ 15 ∷ 16 ∷ [] in
+      let last = eqb (flushesOf (p t)) lastFlush in
+      among a (flush t) ns _ (flush-checks a g (inv .table) (inv .shows) (inv .good .core .parts) t (ltb-true t (partitions g) l))
+      (give-if ns (not (inUse g (p t))) 15 (refuseIf last 16 none) refl (give-if ns last 16 none refl tt)) (λ e. rw (result-flush a _ refl t) tt))
+      (λ l. rw (reply-refused a (flush t) (unread 4) (flush-out a g (inv .table) (inv .shows) (inv .good .core .parts) t (ltb-false t (partitions g) l))) (refl, refl))
+  refusals-possible (view t q n) fits = either (ltb t (partitions g) && ltb q (g .pages))
       (λ e.
       let both = both-true (ltb t (partitions g)) (ltb q (g .pages)) e in
       let below = ltb-true t (partitions g) (both .0) in
       let page = ltb-true q (g .pages) (both .1) in
-      rw (view-checks a g (inv .table) (inv .shows) (inv .good .core .parts) t below q n page, inv .shows .geometry)
-      (among-if (4 ∷ 17 ∷ []) (not (eqb n 0) && not (isLive g (partition g t (a .memory)) n)) 17 none (viewed g t q n (a .flash)) refl (view-left t q n below page)))
-      (λ e. rw (view-out a g (inv .table) (inv .shows) (inv .good .core .parts) t q n (outside (ltb t (partitions g)) (ltb q (g .pages)) e)) (refl, refl))
+      let dead = not (eqb n 0) && not (isLive g (headOf (p t)) n) in
+      among a (view t q n) _ _ (view-checks a g (inv .table) (inv .shows) (inv .good .core .parts) t below q n page)
+      (give-if (4 ∷ 17 ∷ []) dead 17 none refl tt)
+      (λ x. rw (result-view a g (inv .shows .geometry) t q n) (page-shown t q n below page (refuse-none dead 17 none x .0))))
+      (λ e. rw (reply-refused a (view t q n) (unread 4)
+      (view-out a g (inv .table) (inv .shows) (inv .good .core .parts) t q n (outside (ltb t (partitions g)) (ltb q (g .pages)) e))) (refl, refl))
     where
       outside : (x y : Bool) → x && y ≡ false → not x || not y ≡ true
       outside true true e = absurd (false≢true (sym e))

@@ -5,6 +5,7 @@ use mathlib.Core.List.{List, [], _∷_}
 use mathlib.Core.Option.{Option, none, some}
 use Rattle.model.specs.declared.Geometry.{Geometry}
 use Rattle.model.specs.Bytes.{zeros}
+use Rattle.model.specs.Geometry.{geometry}
 use Rattle.model.specs.Answers.{Areas}
 use Rattle.model.specs.Calls.{Call, format, put, del, flush}
 use Rattle.model.proofs.Computing.{computing}
@@ -12,7 +13,7 @@ use Rattle.history.specs.History.{Known, History, blank, older, note, re
 
 -- two batches of one page of three entries, for one partition and for two: key 2 ^ 63 is in the second
 abbrev with : ℕ → Geometry
-with s = record { parts = s; page = 64; pages = 1; kept = 2; bits = 64; hashes = 3; list = 1 }
+with s = geometry s 64 1 2 64 3 1
 
 abbrev start : Areas
 start = record { memory = zeros 256; flash = zeros 256 }

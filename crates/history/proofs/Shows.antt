@@ -1,21 +1,24 @@
 -- Bytes that show a partition of the table: those of memory, and those of its slots in flash.
 -- It is a relation and no function: flash keeps dead batches, and what stands behind the used records is not looked at.
-use Prim.Native.Nat.{ℕ, _^_, _<_}
-use mathlib.Core.Path.{_≡_, refl, sym, _∙_, ap}
+use Prim.Native.Nat.{ℕ, _<_}
+use mathlib.Core.Bool.{Bool, true}
+use mathlib.Core.Path.{_≡_, refl, sym, _∙_, ap, ap₂}
 use mathlib.Core.List.{List}
 use mathlib.Core.Option.{Option, none, some}
 use lib.ListN.{length}
 use Rattle.model.specs.declared.Geometry.{Geometry}
 use Rattle.model.specs.Bytes.{word}
 use Rattle.model.specs.Search.{isSome}
-use Rattle.model.specs.Geometry.{stride}
+use Rattle.model.specs.Geometry.{allowed, stride}
 use Rattle.model.specs.DeleteList.{listedAt}
-use Rattle.model.specs.Filter.{filterFor}
-use Rattle.model.specs.Partition.{flushesOf, listedOf, listOf, filterOf, bufferOf, slot}
+use Rattle.model.specs.Partition.{Head, headOf, flushesOf, listedOf, listOf, bufferOf, slot, live as liveIn, isLive, slotBits}
 use Rattle.model.specs.Get.{batchPage}
-use Rattle.model.proofs.Tables.{Entry, find}
+use Rattle.model.proofs.Sizes.{slot-lt}
+use Rattle.model.proofs.Tables.{Entry, find, hasBit}
 use Rattle.model.proofs.Entries.{heldAt, length-entriesFrom}
 use Rattle.model.proofs.ListEntries.{listEntries, find-listed}
+use Rattle.model.proofs.Heads.{HeadWords, live-bounds, bounds-live}
+use Rattle.model.proofs.Partitions.{Laid}
 use Rattle.history.proofs.Table.{Part, Live}
 use Rattle.history.proofs.Pages.{ShowsPage}
 
@@ -28,17 +31,46 @@ pub same-batch-page : {g : Geometry} {t n q : ℕ} {p p′ : List ℕ} {es es′
     → ShowsBatchPage g t n q p es → ShowsBatchPage g t n q p′ es′
 same-batch-page e e′ shows = rw (e, e′) shows
 
--- partition t, with the bytes p in memory, and flash f
+-- Partition t, with the bytes p in memory, and flash f. What counts of a live batch's filter is which bits are set.
 pub record ShowsPart (g : Geometry) (t : ℕ) (p f : List ℕ) (s : Part) : Type 0 where
   pub long : length p ≡ stride g
+  pub words : HeadWords (headOf p)
   pub flushes : flushesOf p ≡ s .flushes
-  pub countable : s .flushes < 2 ^ 32
+  pub live : liveIn g (headOf p) ≡ s .live
   pub list : listEntries (listedOf p) (listOf g p) ≡ s .list
   pub buffer : (q : ℕ) → q < g .pages → ShowsPage g t q (bufferOf g p q) (s .buffer q)
-  pub batch : (n : ℕ) → Live g (s .flushes) n → (q : ℕ) → q < g .pages → ShowsBatchPage g t n q (batchPage g t f n q) (s .batch n q)
-  pub filter : (n : ℕ) → Live g (s .flushes) n → filterOf g (slot g n) p ≡ filterFor g (batchPage g t f n)
+  pub batch : (n : ℕ) → Live s n → (q : ℕ) → q < g .pages → ShowsBatchPage g t n q (batchPage g t f n q) (s .batch n q)
+  pub filter : (n b : ℕ) → Live s n → b < g .bits → slotBits g p (slot g n) b ≡ hasBit g (s .batch n) b
+
+-- bytes are shown by their parts: what is asked of each stands here in the order of the fields
+pub shows-laid : {g : Geometry} {t : ℕ} {p f : List ℕ} {s : Part} {h : Head} {l : List ℕ} {bits : ℕ → ℕ → Bool} {bs : ℕ → List ℕ}
+    → allowed g ≡ true → Laid g p h l bits bs
+    → HeadWords h → h .flushes ≡ s .flushes → liveIn g h ≡ s .live → listEntries (h .listed) l ≡ s .list
+    → ((q : ℕ) → q < g .pages → ShowsPage g t q (bs q) (s .buffer q))
+    → ((n : ℕ) → Live s n → (q : ℕ) → q < g .pages → ShowsBatchPage g t n q (batchPage g t f n q) (s .batch n q))
+    → ((n b : ℕ) → Live s n → b < g .bits → bits (slot g n) b ≡ hasBit g (s .batch n) b)
+    → ShowsPart g t p f s
+shows-laid {g} ok at words flushes live list buffer batch filter = record {
+  long = at .long;
+  words = rw (at .head) words;
+  flushes = ap (λ (h : Head). h .flushes) (at .head) ∙ flushes;
+  live = ap (liveIn g) (at .head) ∙ live;
+  list = ap₂ listEntries (ap (λ (h : Head). h .listed) (at .head)) (at .list) ∙ list;
+  buffer = λ q l. rw (at .buffer q l) (buffer q l);
+  batch = batch;
+  filter = λ n b live l. at .filter (slot g n) b (slot-lt g ok n) l ∙ filter n b live l;
+}
 
 module _ {g : Geometry} {t : ℕ} {p f : List ℕ} {s : Part} (shows : ShowsPart g t p f s) where
+  -- a batch is live by the head where it is by the table
+  pub live-by-head : (n : ℕ) → Live s n → isLive g (headOf p) n ≡ true
+  live-by-head n l = bounds-live g (headOf p) n (l .first) (rw (shows .flushes) (l .flushed)) (rw (shows .live, shows .flushes) (l .near))
+
+  pub live-by-table : (n : ℕ) → isLive g (headOf p) n ≡ true → Live s n
+  live-by-table n e =
+      let bounds = live-bounds g (headOf p) n e in
+      record { first = bounds .0; flushed = rw (shows .flushes) at (bounds .1); near = rw (shows .live, shows .flushes) at (bounds .2) }
+
   pub list-count : listedOf p ≡ length (s .list)
   list-count = sym (length-entriesFrom 4 (listedOf p) 0 (listOf g p)) ∙ ap length (shows .list)
 

@@ -2,31 +2,30 @@
 use Prim.Native.Nat.{ℕ}
 use mathlib.Core.Path.{_≡_, refl}
 use mathlib.Core.Option.{Option, none, some}
-use Rattle.model.specs.Answers.{Areas, Answer, done, found, absent, shown, refused}
-use Rattle.model.specs.Calls.{Call, format, put, get, del, flush, view, checks, result, replyIf, reply, effect, unlessRefused, after}
-use Rattle.history.specs.History.{History, heard, note}
+use Rattle.model.specs.Answers.{Areas, Refusal, Answer, done, found, absent, shown, refused}
+use Rattle.model.specs.Calls.{Call, format, put, get, del, flush, view, checks, result, reply, effect, after}
+use Rattle.model.proofs.Calls.{result-del, result-format, result-flush, effect-get, effect-view, reply-refused, after-refused, reply-accepted, after-done, after-same}
+use Rattle.history.specs.History.{History, accepted, heard, note}
 use Rattle.history.specs.Claim.{Fits}
 use Rattle.history.proofs.InStep.{InStep, format-keeps, flush-keeps}
-use Rattle.history.proofs.Keyed.{del-keeps, put-keeps}
+use Rattle.history.proofs.Keyed.{del-keeps, put-result, put-keeps}
+
+-- what holds of a refusal that leaves both areas, and of the call done, holds of what the call leaves and answers
+pub outcome : (a : Areas) (c : Call) (n : ℕ) (P : Areas → Answer → Type 0) → result a c ≡ done n
+    → ((m r : ℕ) → P a (refused m r)) → (checks a c ≡ none → P (effect a c) (done n)) → P (after a c) (reply a c)
+outcome a c n P ends turned kept = go (checks a c) refl
+  where
+    go : (o : Option Refusal) → checks a c ≡ o → P (after a c) (reply a c)
+    go (some r) e = rw (after-refused a c r e, reply-refused a c r e) (turned (r .number) (r .reads))
+    go none e = rw (after-done a c e n ends, reply-accepted a c e, ends) (kept e)
 
 module _ (a : Areas) (h : History) (inv : InStep a h) where
   -- a refused call changes nothing
-  unless-refused : (c : Call) → (checks a c ≡ none → InStep (unlessRefused (result a c) a (effect a c)) (note h (heard c (result a c)))) → InStep (after a c) (note h (heard c (reply a c)))
-  unfolding after reply note
-  unless-refused c accepted = go (checks a c) refl
-    where
-      go : (o : Option ℕ) → checks a c ≡ o → InStep (unlessRefused (replyIf o (result a c)) a (effect a c)) (note h (heard c (replyIf o (result a c))))
-      go (some n) e = inv
-      go none e = accepted e
+  unless-refused : (c : Call) (n : ℕ) → result a c ≡ done n → (checks a c ≡ none → InStep (effect a c) (note h (accepted c n))) → InStep (after a c) (note h (heard c (reply a c)))
+  unfolding note
+  unless-refused c n ends kept = outcome a c n (λ a′ x. InStep a′ (note h (heard c x))) ends (λ m r. inv) kept
 
   -- get and view change nothing, whatever they answer
-  same-areas : (x : Answer) → unlessRefused x a a ≡ a
-  same-areas (done n) = refl
-  same-areas (found v r p) = refl
-  same-areas (absent r) = refl
-  same-areas (shown s) = refl
-  same-areas (refused n r) = refl
-
   get-heard : (k : ℕ) (x : Answer) → note h (heard (get k) x) ≡ h
   unfolding note
   get-heard k (done n) = refl
@@ -44,10 +43,10 @@ module _ (a : Areas) (h : History) (inv : InStep a h) where
   view-heard t q n (refused m r) = refl
 
   pub step : (c : Call) → Fits c → InStep (after a c) (note h (heard c (reply a c)))
-  unfolding after note effect result
-  step (format g) fits = unless-refused (format g) (format-keeps a g)
-  step (put k v) fits = unless-refused (put k v) (put-keeps a h inv k (fits .0) v (fits .1))
-  step (get k) fits = rw (same-areas (reply a (get k)), get-heard k (reply a (get k))) inv
-  step (del k) fits = unless-refused (del k) (del-keeps a h inv k fits)
-  step (flush t) fits = unless-refused (flush t) (flush-keeps a h inv t)
-  step (view t q n) fits = rw (same-areas (reply a (view t q n)), view-heard t q n (reply a (view t q n))) inv
+  unfolding note
+  step (format g) fits = unless-refused (format g) 0 (result-format a g) (format-keeps a g)
+  step (put k v) fits = unless-refused (put k v) _ (put-result a h inv k (fits .0) v (fits .1)) (put-keeps a h inv k (fits .0) v (fits .1))
+  step (get k) fits = rw (after-same a (get k) (effect-get a k), get-heard k (reply a (get k))) inv
+  step (del k) fits = unless-refused (del k) 0 (result-del a k) (del-keeps a h inv k fits)
+  step (flush t) fits = unless-refused (flush t) _ (result-flush a _ refl t) (flush-keeps a h inv t)
+  step (view t q n) fits = rw (after-same a (view t q n) (effect-view a t q n), view-heard t q n (reply a (view t q n))) inv

@@ -1,7 +1,7 @@
 -- A put without its flush, and a del, on bytes that show a partition show the changed partition.
-use Prim.Native.Nat.{ℕ, _+_, _-_, _^_, _≤_, _<_}
+use Prim.Native.Nat.{ℕ, suc, _+_, _-_, _^_, _≤_, _<_}
 use mathlib.Core.Bool.{true, false}
-use mathlib.Core.Path.{_≡_, refl, _∙_, ap, ap₂}
+use mathlib.Core.Path.{_≡_, refl, _∙_, ap}
 use mathlib.Core.List.{List, [], _∷_, _++_}
 use mathlib.Core.Option.{Option, none, some}
 use native.Mathlib.Omega.{arith}
@@ -13,86 +13,65 @@ use Rattle.model.specs.Geometry.{allowed, capacity}
 use Rattle.model.specs.Keys.{pageOf}
 use Rattle.model.specs.Page.{stored, without}
 use Rattle.model.specs.DeleteList.{listedAt, struck, enlisted}
-use Rattle.model.specs.Partition.{flushesOf, listedOf, listOf, filterOf, bufferOf}
+use Rattle.model.specs.Partition.{Head, headOf, listedHead, unlistedHead, listedOf, listOf, bufferOf, slotBits, live as liveIn}
 use Rattle.model.specs.Put.{unlisted, buffered}
 use Rattle.model.specs.Del.{youngest, unbuffered, listedWith, deleted}
-use Rattle.model.proofs.Sizes.{page-of-lt, slot-lt}
+use Rattle.model.proofs.Sizes.{sizes, page-of-lt}
 use Rattle.model.proofs.Tests.{either}
 use Rattle.model.proofs.Tables.{Entry, find, store, erase, erase-none}
 use Rattle.model.proofs.Entries.{heldAt}
 use Rattle.model.proofs.ListEntries.{listEntries, entries-struck, entries-enlisted}
+use Rattle.model.proofs.Heads.{HeadWords, words-listed, words-unlisted, live-listed, live-unlisted}
 use Rattle.model.proofs.Partitions.{modify, modify-at, modify-off, Laid}
 use Rattle.model.proofs.PartitionsCalls.{list-long, laid-buffered, laid-unbuffered, laid-unlisted, laid-listed, not-listed, deleted-listed, deleted-stamped}
-use Rattle.history.proofs.Table.{Part, live, isEmpty, mustList, enlist, stored as storedPart, deleted as deletedPart, passing as passingOf}
-use Rattle.history.proofs.Walk.{Falling, passing-falls}
+use Rattle.history.proofs.Table.{Part, remade, isEmpty, mustList, enlist, stored as storedPart, deleted as deletedPart, passing as passingOf}
+use Rattle.history.proofs.Core.{PartOk}
+use Rattle.history.proofs.Walk.{LiveBatches, passing-live}
 use Rattle.history.proofs.Pages.{ShowsPage, shows-stored, shows-without}
-use Rattle.history.proofs.Shows.{ShowsPart, list-count, list-find, list-has}
+use Rattle.history.proofs.Shows.{ShowsPart, shows-laid, list-count, list-find, list-has}
 use Rattle.history.proofs.Passing.{passing-shown}
-
--- the partition with another list, or with another buffer
-abbrev relisted : Part → List Entry → Part
-relisted s l = record { flushes = s .flushes; list = l; buffer = s .buffer; batch = s .batch }
-
-abbrev rebuffered : Part → (ℕ → List Entry) → Part
-rebuffered s b = record { flushes = s .flushes; list = s .list; buffer = b; batch = s .batch }
 
 module _ (g : Geometry) (ok : allowed g ≡ true) (t : ℕ) (p f : List ℕ) (s : Part) (shows : ShowsPart g t p f s) where
   -- one page of the buffer changed
-  shows-page : (p′ : List ℕ) (q : ℕ) → q < g .pages → (c : List ℕ → List ℕ) (c′ : List Entry → List Entry)
-      → Laid g p′ (flushesOf p) (listedOf p) (listOf g p) (λ j. filterOf g j p) (modify q c (bufferOf g p))
+  shows-page : (p′ : List ℕ) (q : ℕ) (c : List ℕ → List ℕ) (c′ : List Entry → List Entry)
+      → Laid g p′ (headOf p) (listOf g p) (slotBits g p) (modify q c (bufferOf g p))
       → ShowsPage g t q (c (bufferOf g p q)) (c′ (s .buffer q))
-      → ShowsPart g t p′ f (rebuffered s (modify q c′ (s .buffer)))
-  shows-page p′ q l c c′ at page = record {
-    long = at .long;
-    flushes = at .flushes ∙ shows .flushes;
-    countable = shows .countable;
-    list = ap₂ listEntries (at .listed) (at .list) ∙ shows .list;
-    buffer = λ r m. elim (ℕ-discrete r q) [
-      | yes e ↦ rw (at .buffer r m, modify-at q c (bufferOf g p) r e, modify-at q c′ (s .buffer) r e) (rw e page)
-      | no e ↦ rw (at .buffer r m, modify-off q c (bufferOf g p) r e, modify-off q c′ (s .buffer) r e) (shows .buffer r m)
-    ];
-    batch = shows .batch;
-    filter = λ n live. at .filter _ (slot-lt g ok n) ∙ shows .filter n live;
-  }
+      → ShowsPart g t p′ f (remade s (s .list) (modify q c′ (s .buffer)))
+  shows-page p′ q c c′ at page = shows-laid ok at (shows .words) (shows .flushes) (shows .live) (shows .list)
+      (λ r m. elim (ℕ-discrete r q) [
+        | yes e ↦ rw (modify-at q c (bufferOf g p) r e, modify-at q c′ (s .buffer) r e) (rw e page)
+        | no e ↦ rw (modify-off q c (bufferOf g p) r e, modify-off q c′ (s .buffer) r e) (shows .buffer r m)
+      ])
+      (shows .batch) (shows .filter)
 
-  -- the list changed
-  shows-list : (p′ : List ℕ) (L : ℕ) (l : List ℕ) (es : List Entry)
-      → Laid g p′ (flushesOf p) L l (λ j. filterOf g j p) (bufferOf g p) → listEntries L l ≡ es → ShowsPart g t p′ f (relisted s es)
-  shows-list p′ L l es at e = record {
-    long = at .long;
-    flushes = at .flushes ∙ shows .flushes;
-    countable = shows .countable;
-    list = ap₂ listEntries (at .listed) (at .list) ∙ e;
-    buffer = λ q m. rw (at .buffer q m) (shows .buffer q m);
-    batch = shows .batch;
-    filter = λ n live. at .filter _ (slot-lt g ok n) ∙ shows .filter n live;
-  }
-
-  number : flushesOf p < 2 ^ 32
-  number = omega (arith, shows .flushes, shows .countable)
+  -- the list changed, and its length in the head
+  shows-list : (p′ : List ℕ) (h : Head) (l : List ℕ) (es : List Entry) → Laid g p′ h l (slotBits g p) (bufferOf g p)
+      → HeadWords h → h .flushes ≡ headOf p .flushes → liveIn g h ≡ liveIn g (headOf p) → listEntries (h .listed) l ≡ es → ShowsPart g t p′ f (remade s es (s .buffer))
+  shows-list p′ h l es at words flushes live e =
+      shows-laid ok at words (flushes ∙ shows .flushes) (live ∙ shows .live) e (shows .buffer) (shows .batch) (shows .filter)
 
   module _ (fits : length (s .list) ≤ g .list) where
-    listed-fits : listedOf p ≤ g .list
-    listed-fits = omega (arith, list-count shows)
-
     -- the list without the key's first entry
-    shows-unlisted : (k : ℕ) → ShowsPart g t (unlisted g k p) f (relisted s (erase k (s .list)))
+    shows-unlisted : (k : ℕ) → ShowsPart g t (unlisted g k p) f (remade s (erase k (s .list)) (s .buffer))
     shows-unlisted k = go (listedAt (listedOf p) k (listOf g p)) refl
       where
-        go : (o : Option ℕ) → listedAt (listedOf p) k (listOf g p) ≡ o → ShowsPart g t (unlisted g k p) f (relisted s (erase k (s .list)))
+        go : (o : Option ℕ) → listedAt (listedOf p) k (listOf g p) ≡ o → ShowsPart g t (unlisted g k p) f (remade s (erase k (s .list)) (s .buffer))
         go none e = rw (not-listed g k p e, erase-none k (s .list) (list-find shows k ∙ ap (heldAt 4 (listOf g p)) e)) shows
-        go (some i) e = shows-list _ (listedOf p - 1) (struck i (listedOf p) (listOf g p)) _ (laid-unlisted g ok p (shows .long) number listed-fits k i e)
-            (entries-struck (listedOf p) (listOf g p) (omega (arith, listed-fits, list-long g ok p (shows .long))) k i e ∙ ap (erase k) (shows .list))
+        go (some i) e = shows-list _ (unlistedHead 1 (headOf p)) (struck i (listedOf p) (listOf g p)) _ (laid-unlisted g ok p (shows .long) (shows .words) k i e)
+            (words-unlisted 1 (headOf p) (shows .words)) refl (live-unlisted g 1 (headOf p))
+            (entries-struck (listedOf p) (listOf g p) (omega (arith, fits, list-count shows, list-long g ok p (shows .long))) k i e ∙ ap (erase k) (shows .list))
 
-    -- the list with the key at its end
-    shows-listed : (k n : ℕ) → k < 2 ^ 64 → n < 2 ^ 32 → length (s .list) < g .list
-        → ShowsPart g t (listedWith (some n) g k p) f (relisted s (s .list ++ (record { key = k; val = n } ∷ [])))
-    shows-listed k n hk hn room =
-        shows-list _ (listedOf p + 1) (enlisted (listedOf p) k n (listOf g p)) _ (laid-listed g ok p (shows .long) number listed-fits k n)
-        (entries-enlisted (listedOf p) k n (listOf g p) hk hn (omega (arith, list-count shows, list-long g ok p (shows .long)))
-        ∙ ap (λ (l : List Entry). l ++ (record { key = k; val = n } ∷ [])) (shows .list))
+  -- the list with the key at its end
+  shows-listed : (k n : ℕ) → k < 2 ^ 64 → n < 2 ^ 32 → length (s .list) < g .list
+      → ShowsPart g t (listedWith (some n) g k p) f (remade s (s .list ++ (record { key = k; val = n } ∷ [])) (s .buffer))
+  shows-listed k n hk hn room =
+      let free : listedOf p < g .list = omega (arith, list-count shows) in
+      shows-list _ (listedHead (headOf p)) (enlisted (listedOf p) k n (listOf g p)) _ (laid-listed g ok p (shows .long) (shows .words) free k n)
+      (words-listed (headOf p) (shows .words) (omega (arith, sizes g ok .list-max))) refl (live-listed g (headOf p))
+      (entries-enlisted (listedOf p) k n (listOf g p) hk hn (omega (arith, list-long g ok p (shows .long)))
+      ∙ ap (λ (l : List Entry). l ++ (record { key = k; val = n } ∷ [])) (shows .list))
 
-module _ (g : Geometry) (ok : allowed g ≡ true) (t : ℕ) (p f : List ℕ) (s : Part) (shows : ShowsPart g t p f s) (fits : length (s .list) ≤ g .list)
+module _ (g : Geometry) (ok : allowed g ≡ true) (t : ℕ) (p f : List ℕ) (s : Part) (shows : ShowsPart g t p f s) (part : PartOk g s)
     (k : ℕ) (hk : k < 2 ^ 64) where
   abbrev q : ℕ
   q = pageOf g k
@@ -104,27 +83,27 @@ module _ (g : Geometry) (ok : allowed g ≡ true) (t : ℕ) (p f : List ℕ) (s 
       → ShowsPart g t (unlisted g k (buffered g k v p)) f (storedPart g k v s)
   unfolding storedPart
   shows-put v hv room =
-      shows-unlisted g ok t (buffered g k v p) f (rebuffered s (modify q (store k v) (s .buffer)))
-      (shows-page g ok t p f s shows _ q (page-of-lt g ok k) (stored k v) (store k v) (laid-buffered g ok p (shows .long) k v) (shows-stored page ok k v hk hv room)) fits k
+      shows-unlisted g ok t (buffered g k v p) f (remade s (s .list) (modify q (store k v) (s .buffer)))
+      (shows-page g ok t p f s shows _ q (stored k v) (store k v) (laid-buffered g ok p (shows .long) k v) (shows-stored page ok k v hk hv room)) (part .listFits) k
 
   -- the key out of its buffer page
   abbrev erased : Part
-  erased = rebuffered s (modify q (erase k) (s .buffer))
+  erased = remade s (s .list) (modify q (erase k) (s .buffer))
 
   shows-erased : ShowsPart g t (unbuffered g k p) f erased
-  shows-erased = shows-page g ok t p f s shows _ q (page-of-lt g ok k) (without k) (erase k) (laid-unbuffered g ok p (shows .long) k) (shows-without page ok k)
+  shows-erased = shows-page g ok t p f s shows _ q (without k) (erase k) (laid-unbuffered g ok p (shows .long) k) (shows-without page ok k)
 
   -- and listed with the youngest of these batches
-  shows-del : (ns : List ℕ) → (isEmpty ns ≡ false → length (s .list) < g .list) → Falling 0 (2 ^ 32) ns
-      → ShowsPart g t (listedWith (youngest ns) g k (unbuffered g k p)) f (relisted erased (enlist k ns (s .list)))
+  shows-del : (ns : List ℕ) → (isEmpty ns ≡ false → length (s .list) < g .list) → LiveBatches s (suc (s .flushes)) ns
+      → ShowsPart g t (listedWith (youngest ns) g k (unbuffered g k p)) f (remade erased (enlist k ns (s .list)) (erased .buffer))
   unfolding enlist
-  shows-del [] room low = shows-erased
-  shows-del (n ∷ ns) room low = shows-listed g ok t (unbuffered g k p) f erased shows-erased fits k n hk (low .1) (room refl)
+  shows-del [] room live = shows-erased
+  shows-del (n ∷ ns) room live =
+      shows-listed g ok t (unbuffered g k p) f erased shows-erased k n hk (omega (arith, live .0 .flushed, shows .flushes, shows .words .flushes)) (room refl)
 
   pub shows-deleted : (mustList g k s ≡ true → length (s .list) < g .list) → ShowsPart g t (deleted g k p) f (deletedPart g k s)
   unfolding deletedPart mustList
   shows-deleted room = either (isSome (find k (s .list)))
       (λ h. rw (deleted-listed g k p (list-has shows k ∙ h)) (simp h shows))
-      (λ h. rw (deleted-stamped g k p (list-has shows k ∙ h), passing-shown g ok t p f s shows k)
-      (simp h (shows-del (passingOf g k s) (λ some. room (simp (h, some)))
-      (passing-falls g k s (live g s) (s .flushes) 0 (2 ^ 32) (omega arith) (omega arith) (shows .countable)))))
+      (λ h. rw (deleted-stamped g k p (list-has shows k ∙ h), passing-shown g ok t p f s shows k (part .liveFlushed))
+      (simp h (shows-del (passingOf g k s) (λ some. room (simp (h, some))) (passing-live g k s (part .liveFlushed)))))

@@ -8,39 +8,44 @@ use Rattle.model.specs.declared.Geometry.{Geometry}
 use Rattle.model.specs.Search.{isSome}
 use Rattle.model.specs.Geometry.{capacity}
 use Rattle.model.specs.Keys.{pageOf}
-use Rattle.model.proofs.Tables.{Entry, find, store, erase, strike, passesAll}
+use Rattle.model.proofs.Tables.{Entry, find, store, erase, strike, passesIn}
 use Rattle.model.proofs.Partitions.{modify}
 
--- The list holds keys with stamps. Batches go by number, and each keeps its pages.
+-- As many of the latest batches are live as the live number says. The list holds keys with stamps. Batches go by number, and each keeps its pages.
 pub record Part : Type 0 where
   pub flushes : ℕ
+  pub live : ℕ
   pub list : List Entry
   pub buffer : ℕ → List Entry
   pub batch : ℕ → ℕ → List Entry
 
-abbrev pub live : Geometry → Part → ℕ
-live g p = min (g .kept) (p .flushes)
-
--- batch n is live after F flushes
-pub record Live (g : Geometry) (F n : ℕ) : Type 0 where
+-- batch n is live after F flushes: it goes by the two numbers, so that a change of list or buffer leaves it
+pub record LiveAt (F live n : ℕ) : Type 0 where
   pub first : 1 ≤ n
   pub flushed : n ≤ F
-  pub kept : F < n + g .kept
+  pub near : F < n + live
+
+abbrev pub Live : Part → ℕ → Type 0
+Live p n = LiveAt (p .flushes) (p .live) n
 
 abbrev pub nothing : ℕ → List Entry
 nothing q = []
 
 abbrev pub empty : Part
-empty = record { flushes = 0; list = []; buffer = nothing; batch = λ n. nothing }
+empty = record { flushes = 0; live = 0; list = []; buffer = nothing; batch = λ n. nothing }
+
+-- another list, and another buffer
+abbrev pub remade : Part → List Entry → (ℕ → List Entry) → Part
+remade p l b = record { flushes = p .flushes; live = p .live; list = l; buffer = b; batch = p .batch }
 
 -- of `count` batches, from batch n down, those that pass the key
 unfoldable pub passingFrom : Geometry → ℕ → Part → ℕ → ℕ → List ℕ
 passingFrom g k p zero n = []
 passingFrom g k p (suc count) n =
-    cond (passesAll g (p .batch n) k) (n ∷ passingFrom g k p count (n - 1)) (passingFrom g k p count (n - 1))
+    cond (passesIn g (p .batch n) k) (n ∷ passingFrom g k p count (n - 1)) (passingFrom g k p count (n - 1))
 
 abbrev pub passing : Geometry → ℕ → Part → List ℕ
-passing g k p = passingFrom g k p (live g p) (p .flushes)
+passing g k p = passingFrom g k p (p .live) (p .flushes)
 
 abbrev pub isEmpty : {A : Type 0} → List A → Bool
 isEmpty [] = true
@@ -54,24 +59,25 @@ due g k p = not (isSome (find k (p .buffer (pageOf g k)))) && eqb (length (p .bu
 unfoldable pub mustList : Geometry → ℕ → Part → Bool
 mustList g k p = not (isSome (find k (p .list))) && not (isEmpty (passing g k p))
 
-abbrev pub expires : Geometry → Part → ℕ → Bool
-expires g p stamp = eqb (stamp + g .kept) (p .flushes + 1)
+-- a stamp that leaves the list with flush F + 1
+abbrev pub expires : ℕ → ℕ → ℕ → Bool
+expires kept F stamp = eqb (stamp + kept) (F + 1)
+
+-- the live number after one flush more
+abbrev pub liveAfter : ℕ → ℕ → ℕ
+liveAfter kept live = min kept (live + 1)
 
 unfoldable pub flushed : Geometry → Part → Part
 flushed g p = record {
   flushes = suc (p .flushes);
-  list = strike (expires g p) (p .list);
+  live = liveAfter (g .kept) (p .live);
+  list = strike (expires (g .kept) (p .flushes)) (p .list);
   buffer = nothing;
   batch = modify (suc (p .flushes)) (λ old. p .buffer) (p .batch);
 }
 
 unfoldable pub stored : Geometry → ℕ → ℕ → Part → Part
-stored g k v p = record {
-  flushes = p .flushes;
-  list = erase k (p .list);
-  buffer = modify (pageOf g k) (store k v) (p .buffer);
-  batch = p .batch;
-}
+stored g k v p = remade p (erase k (p .list)) (modify (pageOf g k) (store k v) (p .buffer))
 
 -- the list with k at its end, stamped with the first of these batches; unchanged when there is none
 unfoldable pub enlist : ℕ → List ℕ → List Entry → List Entry
@@ -79,9 +85,6 @@ enlist k [] l = l
 enlist k (n ∷ ns) l = l ++ (record { key = k; val = n } ∷ [])
 
 unfoldable pub deleted : Geometry → ℕ → Part → Part
-deleted g k p = record {
-  flushes = p .flushes;
-  list = cond (isSome (find k (p .list))) (p .list) (enlist k (passing g k p) (p .list));
-  buffer = cond (isSome (find k (p .list))) (p .buffer) (modify (pageOf g k) (erase k) (p .buffer));
-  batch = p .batch;
-}
+deleted g k p = remade p
+    (cond (isSome (find k (p .list))) (p .list) (enlist k (passing g k p) (p .list)))
+    (cond (isSome (find k (p .list))) (p .buffer) (modify (pageOf g k) (erase k) (p .buffer)))

@@ -10,23 +10,24 @@ use lib.ListN.{length}
 use Rattle.model.specs.declared.Geometry.{Geometry}
 use Rattle.model.specs.Search.{isSome}
 use Rattle.model.specs.Keys.{pageOf}
-use Rattle.model.specs.Answers.{Answer, found, absent, batch}
+use Rattle.model.specs.Answers.{Answer, found, absent, tally, batch}
 use Rattle.model.proofs.Tests.{either}
-use Rattle.model.proofs.Tables.{find, passesAll, passesAll-found, not-passed}
+use Rattle.model.proofs.Tables.{find, passesIn}
+use Rattle.model.proofs.Passing.{passes-found, not-passed}
 use Rattle.history.specs.Claim.{said, readsOf}
-use Rattle.history.proofs.Table.{Part, live, passingFrom, passing}
+use Rattle.history.proofs.Table.{Part, Live, passingFrom, passing}
 
 -- what batch n holds of the key
 abbrev pub lookIn : Geometry → ℕ → Part → ℕ → Option ℕ
 lookIn g k p n = find k (p .batch n (pageOf g k))
 
 abbrev pub answerAt : Option ℕ → ℕ → ℕ → Answer → Answer
-answerAt (some v) n reads later = found v reads (batch n)
+answerAt (some v) n reads later = found v (tally reads) (batch n)
 answerAt none n reads later = later
 
 -- the walk's answer, after so many reads, and the batches that it reads
 unfoldable pub walk : (ℕ → Option ℕ) → List ℕ → ℕ → Answer
-walk look [] reads = absent reads
+walk look [] reads = absent (tally reads)
 walk look (n ∷ ns) reads = answerAt (look n) n (reads + 1) (walk look ns (reads + 1))
 
 unfoldable pub walkRead : (ℕ → Option ℕ) → List ℕ → List ℕ
@@ -43,31 +44,28 @@ walk-reads look (n ∷ ns) reads = go (look n) refl (walk-reads look ns (reads +
     go none e rest = simp e (omega arith)
     go (some v) e rest = simp e (omega arith)
 
--- strictly falling numbers, each at least `low` and below `high`
-abbrev pub Falling : ℕ → ℕ → List ℕ → Type 0
-Falling low high [] = Unit {0}
-Falling low high (n ∷ ns) = (low ≤ n) × (n < high) × Falling low n ns
+-- live batches of the partition, each below the one before, all below `high`: none stands twice
+abbrev pub LiveBatches : Part → ℕ → List ℕ → Type 0
+LiveBatches p high [] = Unit {0}
+LiveBatches p high (n ∷ ns) = Live p n × (n < high) × LiveBatches p n ns
 
--- live batches of this partition, none twice
-abbrev pub LiveBatches : Geometry → Part → List ℕ → Type 0
-LiveBatches g p ns = Falling (suc (p .flushes) - live g p) (suc (p .flushes)) ns
+-- so there are no more of them than the live number
+count-below : (p : Part) (high : ℕ) (ns : List ℕ) → p .flushes < high + p .live → LiveBatches p high ns → length ns + suc (p .flushes) ≤ high + p .live
+count-below p high [] l f = omega arith
+count-below p high (n ∷ ns) l f = omega (arith, count-below p n ns (f .0 .near) (f .2), f .1)
 
-falling-length : (low high : ℕ) (ns : List ℕ) → low ≤ high → Falling low high ns → length ns + low ≤ high
-falling-length low high [] l f = omega arith
-falling-length low high (n ∷ ns) l f = omega (arith, falling-length low n ns (f .0) (f .2), f .1)
+pub live-count : (p : Part) (ns : List ℕ) → LiveBatches p (suc (p .flushes)) ns → length ns ≤ p .live
+live-count p ns f = omega (arith, count-below p (suc (p .flushes)) ns (omega arith) f)
 
-pub live-count : (g : Geometry) (p : Part) (ns : List ℕ) → LiveBatches g p ns → length ns ≤ live g p
-live-count g p ns f = omega (arith, falling-length (suc (p .flushes) - live g p) (suc (p .flushes)) ns (omega arith) f)
-
-pub walk-falling : (look : ℕ → Option ℕ) (low high : ℕ) (ns : List ℕ) → Falling low high ns → Falling low high (walkRead look ns)
+pub walk-live : (look : ℕ → Option ℕ) (p : Part) (high : ℕ) (ns : List ℕ) → LiveBatches p high ns → LiveBatches p high (walkRead look ns)
 unfolding walkRead
-walk-falling look low high [] f = tt
-walk-falling look low high (n ∷ ns) f = (
+walk-live look p high [] f = tt
+walk-live look p high (n ∷ ns) f = (
   f .0,
   f .1,
   either (isSome (look n))
       (λ h. simp h tt)
-      (λ h. simp h (walk-falling look low n ns (f .2))),
+      (λ h. simp h (walk-live look p n ns (f .2))),
 )
 
 -- batch m is younger than the first of these
@@ -76,23 +74,23 @@ Above m [] = Unit {0}
 Above m (n ∷ ns) = n < m
 
 module _ (g : Geometry) (k : ℕ) (p : Part) where
-  pub passing-falls : (count n low high : ℕ) → count ≤ n → low + count ≤ suc n → n < high → Falling low high (passingFrom g k p count n)
+  from-live : (count n high : ℕ) → count ≤ n → n ≤ p .flushes → p .flushes + count ≤ n + p .live → n < high → LiveBatches p high (passingFrom g k p count n)
   unfolding passingFrom
-  passing-falls zero n low high x y z = tt
-  passing-falls (suc count) n low high x y z = either (passesAll g (p .batch n) k)
-      (λ w. simp w (omega arith, z, passing-falls count (n - 1) low n (omega arith) (omega arith) (omega arith)))
-      (λ w. simp w (passing-falls count (n - 1) low high (omega arith) (omega arith) (omega arith)))
+  from-live zero n high x y z w = tt
+  from-live (suc count) n high x y z w = either (passesIn g (p .batch n) k)
+      (λ e. simp e (record { first = omega arith; flushed = y; near = omega arith }, w, from-live count (n - 1) n (omega arith) (omega arith) (omega arith) (omega arith)))
+      (λ e. simp e (from-live count (n - 1) high (omega arith) (omega arith) (omega arith) (omega arith)))
 
-  -- they are live batches, youngest first
-  pub passing-live : LiveBatches g p (passing g k p)
-  passing-live = passing-falls (live g p) (p .flushes) _ _ (omega arith) (omega arith) (omega arith)
+  -- those that pass are live batches, youngest first
+  pub passing-live : p .live ≤ p .flushes → LiveBatches p (suc (p .flushes)) (passing g k p)
+  passing-live within = from-live (p .live) (p .flushes) _ within (omega arith) (omega arith) (omega arith)
 
   module _ (inside : pageOf g k < g .pages) where
     -- a batch that is younger than all that pass does not hold the key
     pub skipped : (count n m : ℕ) → m ≤ n → n < m + count → Above m (passingFrom g k p count n) → lookIn g k p m ≡ none
     unfolding passingFrom
     skipped zero n m l h above = absurd (omega arith)
-    skipped (suc count) n m l h above = either (passesAll g (p .batch n) k)
+    skipped (suc count) n m l h above = either (passesIn g (p .batch n) k)
         (λ w. let z : n < m = simp w at above in absurd (omega arith))
         (λ w. elim (ℕ-discrete m n) [
           | yes e ↦ rw e (not-passed g k (p .batch n) (pageOf g k) inside w)
@@ -107,8 +105,8 @@ module _ (g : Geometry) (k : ℕ) (p : Part) where
     walk-finds (suc count) n m v reads l h here silent = elim (ℕ-discrete m n) [
       | yes e ↦
           (let here′ : find k (p .batch n (pageOf g k)) ≡ some v = rw e at here in
-          simp (passesAll-found g k (p .batch n) (pageOf g k) inside v here′, here′))
-      | no e ↦ either (passesAll g (p .batch n) k)
+          simp (passes-found g k (p .batch n) (pageOf g k) inside v here′, here′))
+      | no e ↦ either (passesIn g (p .batch n) k)
           (λ w. simp (w, silent n (omega arith) (omega arith))
           (walk-finds count (n - 1) m v (reads + 1) (omega arith) (omega arith) here (λ b x y. silent b x (omega arith))))
           (λ w. simp w
@@ -119,6 +117,6 @@ module _ (g : Geometry) (k : ℕ) (p : Part) where
         → said (walk (lookIn g k p) (passingFrom g k p count n) reads) ≡ some none
     unfolding walk passingFrom
     walk-misses zero n reads f silent = refl
-    walk-misses (suc count) n reads f silent = either (passesAll g (p .batch n) k)
+    walk-misses (suc count) n reads f silent = either (passesIn g (p .batch n) k)
         (λ w. simp (w, silent n (omega arith) (omega arith)) (walk-misses count (n - 1) (reads + 1) (omega arith) (λ b x y. silent b (omega arith) (omega arith))))
         (λ w. simp w (walk-misses count (n - 1) reads (omega arith) (λ b x y. silent b (omega arith) (omega arith))))

@@ -4,7 +4,7 @@ ghost use mathlib.Core.Path.{_≡_};
 ghost use Rattle.model.specs.Calls.{Call, bytesShown};
 ghost use Rattle.answers.specs.Told.{written, answered, viewed};
 ghost use Rattle.answers.specs.Performs.{areas, Performs, Inside};
-ghost use Rattle.index.specs.Place.{placeShown};
+ghost use Rattle.index.specs.Address.{addressShown};
 use answers::Answer;
 use answers::Refusal;
 use answers::Viewed;
@@ -88,7 +88,7 @@ pub fn view<'a>(
     flush: u32,
 ) -> &'a [u8]
     ensures { λ r. ⌜ now r ≡ bytesShown (areas (now (memory .entry)) (now (flash .entry))) partition page flush ⌝ }
-    ensures { λ r. ⌜ ptr r ≡ placeShown (ptr (memory .entry)) (ptr (flash .entry)) (areas (now (memory .entry)) (now (flash .entry))) partition page flush ⌝ }
+    ensures { λ r. ⌜ ptr r ≡ addressShown (ptr (memory .entry)) (ptr (flash .entry)) (areas (now (memory .entry)) (now (flash .entry))) partition page flush ⌝ }
 {
     match view_outcome(memory, flash, partition, page, flush) {
         Viewed::Memory(at, size) => {

@@ -205,9 +205,9 @@ unless-same (shown s) a = refl
 unless-same (refused n r) a = refl
 
 module _ (a : Areas) (c : Call) where
-  pub refused-after : (n r : ℕ) → reply a c ≡ refused n r → after a c ≡ a
+  pub refused-unchanged : (n r : ℕ) → reply a c ≡ refused n r → after a c ≡ a
   unfolding after
-  refused-after n r e = rw e
+  refused-unchanged n r e = rw e
 
   module _ (r : Refusal) (e : checks a c ≡ some r) where
     pub reply-refused : reply a c ≡ refused (r .number) (r .reads)
@@ -215,7 +215,7 @@ module _ (a : Areas) (c : Call) where
     reply-refused = rw e
 
     pub after-refused : after a c ≡ a
-    after-refused = refused-after (r .number) (r .reads) reply-refused
+    after-refused = refused-unchanged (r .number) (r .reads) reply-refused
 
   module _ (e : checks a c ≡ none) where
     pub reply-accepted : reply a c ≡ result a c

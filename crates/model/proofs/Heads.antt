@@ -8,12 +8,12 @@ use lib.Dec.{ltb, leb}
 use lib.ListN.{length, getD}
 use borrow.Author.Tests.{ltb-true, ltb-false, leb-true, lt-ltb, le-ltb, le-leb}
 use Rattle.model.specs.declared.Geometry.{Geometry}
-use Rattle.model.specs.Bytes.{write}
+use Rattle.model.specs.Bytes.{write, zeros}
 use Rattle.model.specs.Partition.{Head, headOf, flushedHead, listedHead, unlistedHead, withHead, flushesOf, listedOf, listOf, live, isLive}
 use Rattle.model.specs.Refusals.{headOverfull}
 use Rattle.model.specs.DeleteList.{unexpired}
 use Rattle.model.specs.Flush.{headAfter}
-use Rattle.model.proofs.Words.{length-write, word-lt, word-write, word-write-out}
+use Rattle.model.proofs.Words.{length-write, word-lt, word-write, word-write-out, word-zero}
 use Rattle.model.proofs.ListEntries.{unexpired-le}
 use Rattle.model.proofs.Tests.{both-true}
 
@@ -100,6 +100,11 @@ module _ (g : Geometry) (p : List ℕ) where
   pub live-after : live g (headAfter g p) ≡ min (g .kept) (live g (headOf p) + 1)
   unfolding headAfter live
   live-after = omega arith
+
+-- ---- in zeros, which a format leaves, it is 0
+pub live-zeros : (g : Geometry) (n : ℕ) → live g (headOf (zeros n)) ≡ 0
+unfolding live
+live-zeros g n = omega (arith, word-zero 4 n 0)
 
 -- ---- a change of the list leaves it
 pub live-listed : (g : Geometry) (h : Head) → live g (listedHead h) ≡ live g h

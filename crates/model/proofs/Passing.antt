@@ -55,6 +55,12 @@ module _ (g : Geometry) (any-bit : 0 < g .bits) (x : ℕ) (bits bits′ : ℕ �
   pub passes-same : passes g x bits ≡ passes g x bits′
   passes-same = passes-all g x bits ∙ all-same (g .hashes) ∙ sym (passes-all g x bits′)
 
+-- and a batch passes a key as any bits do that its slot has
+pub batch-passes : (g : Geometry) → 0 < g .bits → (k : ℕ) (p : List ℕ) (n : ℕ) (bits : ℕ → Bool) → ((b : ℕ) → b < g .bits → slotBits g p (slot g n) b ≡ bits b)
+    → batchPasses g k p n ≡ passes g (mixed k) bits
+unfolding batchPasses
+batch-passes g any-bit k p n bits same = passes-same g any-bit (mixed k) (slotBits g p (slot g n)) bits same
+
 -- ---- the bits of a batch
 all-true : (f : ℕ → Bool) (l : List ℕ) → ((b : ℕ) → any (eqb b) l ≡ true → f b ≡ true) → all f l ≡ true
 unfolding all any

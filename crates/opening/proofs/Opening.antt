@@ -1,16 +1,15 @@
 -- What opening a table shows: which refusal every call gives, or that the common checks stop none.
-use Prim.Native.Nat.{ℕ, _≤_}
+use Prim.Native.Nat.{ℕ}
 use mathlib.Core.List.{List}
 use mathlib.Core.Option.{Option, none, some}
 use mathlib.Core.Path.{_≡_, refl, sym, _∙_, ap}
-use lib.ListN.{length}
 use Rattle.model.specs.declared.Geometry.{Geometry}
 use Rattle.model.specs.Opening.{geometryOf}
 use Rattle.model.specs.Answers.{Refusal, unread}
 use Rattle.model.specs.Refusals.{unopened}
 use Rattle.model.proofs.Calls.{Opened, opened, opens, unopened-stays}
 use Rattle.answers.specs.Performs.{areas}
-use Rattle.opening.specs.Opened.{openingNumber, numberOf, IsTable}
+use Rattle.opening.specs.Opened.{openingNumber, IsTable}
 
 module _ (m f : List ℕ) where
   -- the number of the refusal, and 0 where there is none

@@ -35,7 +35,7 @@ puts-more {n} {p = p} {b = b} l g f = rw (decimal-more n l g) (puts-append f (pu
 pub length-answer : (a : Answer) → length (answerText a) ≤ 64
 unfolding answerText
 length-answer (done n) = simp length-append (omega (arith, length-decimal n))
-length-answer (found v r p) = simp length-append (omega (arith, length-decimal v, length-decimal r))
-length-answer (absent r) = simp length-append (omega (arith, length-decimal r))
+length-answer (found v c p) = simp length-append (omega (arith, length-decimal v, length-decimal (c .reads)))
+length-answer (absent c) = simp length-append (omega (arith, length-decimal (c .reads)))
 length-answer (refused n r) = simp length-append (omega (arith, length-decimal n, length-decimal r))
 length-answer (shown s) = omega arith

@@ -83,8 +83,11 @@ pub fn write_answer(out: &mut [u8], at: usize, answer: Answer) -> usize
     ensures { λ r. ⌜ Puts (answerText (answered answer)) at (now (out .entry)) r (now (out .exit)) ⌝ }
 {
     match answer {
-        Answer::Found(hit) => write_two(out, at, b"(found ", hit.value, hit.reads as u64),
-        Answer::Missing(reads) => write_one(out, at, b"(none ", reads as u64),
+        Answer::Found(hit) => {
+            let tally = hit.tally;
+            write_two(out, at, b"(found ", hit.value, tally.reads as u64)
+        }
+        Answer::Absent(tally) => write_one(out, at, b"(none ", tally.reads as u64),
         Answer::Refused(refusal) => write_refusal(out, at, refusal),
     }
 }

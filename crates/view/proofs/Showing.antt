@@ -1,33 +1,22 @@
--- What view refuses with 4, and where what it shows lies.
+-- Where what a view shows lies.
 use Prim.Native.Nat.{ℕ, _+_, _≤_, _<_}
 use mathlib.Core.Bool.{Bool, true, false, cond}
 use mathlib.Core.List.{List}
-use mathlib.Core.Option.{some}
 use mathlib.Core.Path.{_≡_}
 use native.Mathlib.Omega.{arith}
 use lib.Dec.{eqb}
 use lib.ListN.{length}
-use borrow.Author.Tests.{lt-ltb, le-ltb}
 use Rattle.model.specs.declared.Geometry.{Geometry}
 use Rattle.model.specs.Geometry.{allowed, partitions, memoryNeed, slotPageAt, flashNeed}
 use Rattle.model.specs.Page.{expected}
 use Rattle.model.specs.Partition.{slot}
 use Rattle.model.specs.Answers.{Answer, done, found, absent, shown, refused, inMemory, inFlash}
 use Rattle.model.specs.Get.{batchPage}
-use Rattle.model.specs.View.{viewChecks, pageShown, viewed}
+use Rattle.model.specs.View.{pageShown, viewed}
 use Rattle.model.proofs.Sizes.{partition-fits, buffer-fits, slot-lt, slot-page-fits}
 use Rattle.answers.specs.declared.Viewed.{Viewed}
 use Rattle.answers.specs.Told as told
 use Rattle.answers.specs.Performs.{Inside}
-
-module _ (g : Geometry) (t q n : ℕ) (p : List ℕ) where
-  pub no-partition : partitions g ≤ t → viewChecks g t q n p ≡ some 4
-  unfolding viewChecks
-  no-partition h = rw (le-ltb _ _ h)
-
-  pub no-page : t < partitions g → g .pages ≤ q → viewChecks g t q n p ≡ some 4
-  unfolding viewChecks
-  no-page l h = rw (lt-ltb _ _ l, le-ltb _ _ h)
 
 -- what an answer shows lies within its area
 abbrev Shows : Answer → List ℕ → List ℕ → Type 0

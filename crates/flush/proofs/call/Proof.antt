@@ -7,7 +7,6 @@ use borrow.Author.Needs.{needs}
 use Rattle.model.specs.Geometry.{partitions}
 use Rattle.model.specs.Partition.{partition}
 use Rattle.model.specs.Flush.{flushChecks}
-use Rattle.model.specs.Calls.{Call}
 use Rattle.model.proofs.Checks.{flush-4}
 use Rattle.model.proofs.Calls.{checks-flush, result-flush, effect-flush}
 use Rattle.answers.specs.Told.{verdict}

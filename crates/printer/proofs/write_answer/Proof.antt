@@ -6,11 +6,11 @@ use Rattle.printer.proofs.write_answer.Tie as tie
 
 returns : tie.Need-returns
 unfolding answerText
-returns c = rw (c .before .before .before .before .before .before .before .answer .given .1) (c .before .before .write-two .ensures)
+returns c = rw (c .before .before .before .before .before .before .before .before .answer .given .1) (c .before .before .write-two .ensures)
 
 returns-2 : tie.Need-returns-2
 unfolding answerText
-returns-2 c = rw (c .before .before .before .before .before .before .answer2 .given .1) (c .before .before .write-one .ensures)
+returns-2 c = rw (c .before .before .before .before .before .before .before .answer2 .given .1) (c .before .before .write-one .ensures)
 
 returns-3 : tie.Need-returns-3
 returns-3 c = rw (c .before .before .before .before .before .answer3 .given .1) (c .before .before .write-refusal .ensures)

@@ -1,51 +1,58 @@
 -- The tests are those of `viewChecks`, in its order; refusal 4 is no longer possible.
-use Prim.Native.Nat.{ℕ, _<_}
-use mathlib.Core.Bool.{not, _&&_}
-use mathlib.Core.List.{List}
-use mathlib.Core.Option.{none}
-use mathlib.Core.Path.{_≡_, sym, _∙_}
-use lib.Dec.{eqb}
+use mathlib.Core.Bool.{not}
+use mathlib.Core.Option.{none, some}
+use mathlib.Core.Path.{_≡_, sym, _∙_, ap}
+use native.Mathlib.Omega.{arith}
 use borrow.Author.Needs.{needs}
-use borrow.Author.Tests.{lt-ltb, eq-eqb, ne-eqb}
-use Rattle.model.specs.declared.Geometry.{Geometry}
-use Rattle.model.specs.Geometry.{partitions}
-use Rattle.model.specs.Partition.{isLive}
-use Rattle.model.specs.Refusals.{refuseIf, listOverfull, pageOverfull}
+use borrow.Author.Tests.{eq-eqb, ne-eqb}
+use Rattle.model.specs.Partition as model
+use Rattle.model.specs.Partition.{headOf, isLive}
+use Rattle.model.specs.Refusals.{refuseIf, headOverfull}
 use Rattle.model.specs.View.{viewChecks}
+use Rattle.model.proofs.Checks.{view-12, view-12-page, view-last}
+use Rattle.partition.proofs.Inside.{list-inside}
 use Rattle.view.proofs.decide.Statement.{statement}
 use Rattle.view.proofs.decide.Tie as tie
 
-in-range : (g : Geometry) (t q n : ℕ) (p : List ℕ) → t < partitions g → q < g .pages → viewChecks g t q n p ≡ refuseIf (listOverfull g p) 12 (refuseIf (eqb n 0 && pageOverfull g p q) 12 (refuseIf (not (eqb n 0) && not (isLive g p n)) 17 none))
-unfolding viewChecks
-in-range g t q n p l m = rw (lt-ltb t (partitions g) l, lt-ltb q (g .pages) m)
+-- the head that is tested is the partition's
+tested : (c : tie.After-is-overfull) → let a = c .before .before .before .args in headOverfull (a .g) (headOf (a .part .now)) ≡ c .is-overfull .result
+tested c = let a = c .before .before .before .args in sym (c .is-overfull .ensures ∙ ap (headOverfull (a .g)) (c .before .read .ensures))
 
--- behind the first test: as the batch says, or as the buffer page does
-of-batch : (c : tie.After-is-live) → let a = c .before .before .before .before .before .args in viewChecks (a .g) (a .t) (a .q) (a .n) (a .part .now) ≡ refuseIf (not (c .is-live .result)) 17 none
+-- behind the first test: as the batch says
+of-batch : (c : tie.After-is-live) → let a = c .before .before .before .before .before .before .args in viewChecks (a .g) (a .t) (a .q) (a .n) (a .part .now) ≡ refuseIf (not (c .is-live .result)) 17 none
 of-batch c =
     let e = c .before .before in
-    let p = e .before .before .before .pre in
-    in-range _ _ _ _ _ (p .1 .0) (p .1 .1) ∙ rw (sym (e .before .is-list-overfull .ensures) ∙ e .if1 .left, ne-eqb _ _ (c .before .if2 .left), c .is-live .ensures)
+    let s = c .before .before .before .before .before .before in
+    let a = s .args in
+    let other = ne-eqb _ _ (c .before .if2 .left) in
+    let asked : isLive (a .g) (headOf (a .part .now)) (a .n) ≡ c .is-live .result = sym (c .is-live .ensures ∙ ap (λ (h : model.Head). isLive (a .g) h (a .n)) (e .before .before .read .ensures)) in
+    view-last _ _ _ _ _ (s .pre .1 .0) (s .pre .1 .1) (tested (e .before) ∙ e .if1 .left) (rw other) ∙ rw (other, asked)
 
-of-buffer : (c : tie.After-is-page-overfull) → let a = c .before .before .before .before .before .args in viewChecks (a .g) (a .t) (a .q) (a .n) (a .part .now) ≡ refuseIf (c .is-page-overfull .result) 12 none
-of-buffer c =
-    let e = c .before .before in
-    let p = e .before .before .before .pre in
-    in-range _ _ _ _ _ (p .1 .0) (p .1 .1) ∙ rw (sym (e .before .is-list-overfull .ensures) ∙ e .if1 .left, eq-eqb _ _ (c .before .if2 .taken), c .is-page-overfull .ensures)
+is-live-requires : tie.Need-is-live-requires
+is-live-requires c κs = sym (c .before .before .is-overfull .ensures) ∙ c .before .if1 .left
 
 returns : tie.Need-returns
-returns c = let p = c .before .before .before .pre in sym (in-range _ _ _ _ _ (p .1 .0) (p .1 .1) ∙ rw (sym (c .before .is-list-overfull .ensures) ∙ c .if1 .taken))
+returns c = let s = c .before .before .before .before .before in ap some (c .unread .ensures) ∙ sym (view-12 _ _ _ _ _ (s .pre .1 .0) (s .pre .1 .1) (tested (c .before .before) ∙ c .before .if1 .taken))
 
 returns-2 : tie.Need-returns-2
-returns-2 c = rw (of-buffer (c .before), c .if3 .taken)
+returns-2 c =
+    let s = c .before .before .before .before .before .before .before .before in
+    let e = c .before .before .before .before in
+    ap some (c .unread2 .ensures)
+    ∙ sym (view-12-page _ _ _ _ _ (s .pre .1 .0) (s .pre .1 .1) (tested (e .before) ∙ e .if1 .left) (c .before .before .before .if2 .taken) (sym (c .before .before .is-page-overfull .ensures) ∙ c .before .if3 .taken))
 
 returns-3 : tie.Need-returns-3
-returns-3 c = rw (of-buffer (c .before), c .if3 .left)
+returns-3 c =
+    let s = c .before .before .before .before .before .before .before in
+    let e = c .before .before .before in
+    let zero = eq-eqb _ _ (c .before .before .if2 .taken) in
+    sym (view-last _ _ _ _ _ (s .pre .1 .0) (s .pre .1 .1) (tested (e .before) ∙ e .if1 .left) (rw zero (sym (c .before .is-page-overfull .ensures) ∙ c .if3 .left)) ∙ rw zero)
 
 returns-4 : tie.Need-returns-4
-returns-4 c = rw (of-batch (c .before), c .if4 .taken)
+returns-4 c = ap some (c .unread3 .ensures) ∙ sym (of-batch (c .before .before) ∙ rw (c .before .if4 .taken))
 
 returns-5 : tie.Need-returns-5
-returns-5 c = rw (of-batch (c .before), c .if4 .left)
+returns-5 c = sym (of-batch (c .before) ∙ rw (c .if4 .left))
 
 pub decide-spec : {M : Type 1} → statement M
-decide-spec = tie.close (tie.spec (λ c κs. search needs) returns (λ c κs. search needs) returns-2 returns-3 (λ c κs. search needs) returns-4 returns-5)
+decide-spec = tie.close (tie.spec (λ c κs. omega (arith, list-inside _ _ (c .before .pre .0))) (λ c κs. search needs) (λ c κs. search needs) returns (λ c κs. search needs) (λ c κs. search needs) returns-2 returns-3 is-live-requires (λ c κs. search needs) returns-4 returns-5)

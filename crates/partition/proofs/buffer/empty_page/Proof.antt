@@ -1,19 +1,15 @@
--- The page lies inside the partition, and is lent as that part of it.
+-- The page is lent as a part, and comes back empty.
 use native.Mathlib.Omega.{arith}
 use borrow.Author.Needs.{needs}
-use Prim.Native.Nat.{_+_, _≤_}
-use mathlib.Core.Path.{_∙_}
-use lib.ListN.{length}
 use Rattle.model.specs.Page.{emptied}
-use Rattle.model.proofs.Parts.{lent, length-lent}
 use Rattle.model.proofs.Lengths.{length-emptied}
 use Rattle.model.proofs.Sizes.{sizes}
-use Rattle.partition.proofs.Inside.{page-inside}
+use Rattle.partition.proofs.Inside.{LentPage, lends-page}
 use Rattle.partition.proofs.buffer.empty_page.Statement.{statement}
 use Rattle.partition.proofs.buffer.empty_page.Tie as tie
 
-fits : (c : tie.After-buffer-at) → let a = c .before .before .args in c .buffer-at .result + a .g .page ≤ length (a .part .now)
-fits c = let s = c .before .before in rw (c .buffer-at .ensures) (page-inside (s .args .g) (s .args .part .now) (s .pre .0) (s .args .q) (omega arith))
+lent : (c : tie.After-struct-known) → let a = c .before .before .before .args in LentPage (a .g) (a .q) (a .part .now) (c .before .buffer-at .result)
+lent c = let s = c .before .before .before in lends-page _ _ (s .pre .0) _ _ (s .pre .1 .1) (c .before .buffer-at .ensures)
 
 cast-empty : tie.Need-cast-empty
 cast-empty c = let z = sizes _ (c .before .before .before .before .pre .0 .fine) in omega arith
@@ -22,14 +18,10 @@ cast-empty-2 : tie.Need-cast-empty-2
 cast-empty-2 c = let z = sizes _ (c .before .before .before .before .pre .0 .fine) in omega arith
 
 empty-requires : tie.Need-empty-requires
-empty-requires c κs = let z = sizes _ (c .before .before .before .before .pre .0 .fine) in rw (length-lent _ _ _ (fits (c .before .before))) (omega arith)
+empty-requires c κs = let z = sizes _ (c .before .before .before .before .pre .0 .fine) in let l = lent (c .before) in rw (l .own, l .long) (omega arith)
 
 returns : tie.Need-returns
-returns c =
-    let b = c .before .before .before .before .before in
-    let a = b .before .before .args in
-    let e = lent (b .buffer-at .result) (a .g .page) (emptied (a .q) (a .t)) (a .part .now) _ (fits b) (length-emptied (a .q) (a .t)) (c .before .before .empty .ensures) in
-    e ∙ rw (b .buffer-at .ensures)
+returns c = let a = c .before .before .before .before .before .before .before .args in lent (c .before .before .before .before) .back (emptied (a .q) (a .t)) (length-emptied (a .q) (a .t)) _ (c .before .before .empty .ensures)
 
 pub empty-page-spec : {M : Type 1} → statement M
-empty-page-spec = tie.close (tie.spec (λ c κs. search needs) (λ c. omega arith) (λ c. omega (arith, fits (c .before))) (λ c. omega arith) (λ c. omega arith) (λ c. omega (arith, fits (c .before))) cast-empty cast-empty-2 empty-requires (λ c. search needs) returns)
+empty-page-spec = tie.close (tie.spec (λ c κs. search needs) (λ c. omega arith) (λ c. omega (arith, lent c .inside)) (λ c. omega arith) (λ c. omega arith) (λ c. omega (arith, lent c .inside)) cast-empty cast-empty-2 empty-requires (λ c. search needs) returns)

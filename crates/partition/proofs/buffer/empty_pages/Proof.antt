@@ -1,13 +1,13 @@
--- A turn empties page q as the definition does at suc q.
+-- A turn empties page q as the definition does at q + 1.
 use native.Mathlib.Omega.{arith}
 use Rattle.partition.proofs.buffer.empty_pages.Statement.{statement}
 use Rattle.partition.proofs.buffer.empty_pages.Tie as tie
 use Prim.Native.Nat.{ℕ, _-_, _≤_}
-use mathlib.Core.Path.{_≡_, refl, _∙_, ap}
-use native.Mathlib.Numerals.{add-one}
+use mathlib.Core.Path.{_≡_, refl, sym, _∙_, ap}
 use lib.ListN.{length}
 use Rattle.model.specs.Format.{emptiedPages}
 use Rattle.model.proofs.Parts.{length-within}
+use Rattle.model.proofs.Partitions.{emptied-none, emptied-next}
 
 abbrev Inv-loop : tie.InvT-loop
 Inv-loop part₀ g t pages q₀ part q = (q ≤ pages) × (length part ≡ length part₀) × (part ≡ emptiedPages g t q part₀)
@@ -16,8 +16,7 @@ abbrev μ-loop : tie.MeasureT-loop
 μ-loop part₀ g t pages q₀ part q = pages - q
 
 loop-holds : tie.Need-loop-holds Inv-loop μ-loop
-unfolding emptiedPages
-loop-holds c = (omega arith, refl, refl)
+loop-holds c = (omega arith, refl, sym (emptied-none _ _ _))
 
 empty-page-requires : tie.Need-empty-page-requires Inv-loop μ-loop
 empty-page-requires c κs =
@@ -25,11 +24,10 @@ empty-page-requires c κs =
     (record { fine = s .pre .0 .fine; long = omega (arith, s .pre .0 .long) }, (s .pre .1, omega arith))
 
 loop-again : tie.Need-loop-again Inv-loop μ-loop
-unfolding emptiedPages
 loop-again c =
     let l = c .before .before .before .before .before .loop in
     let e = c .before .before .empty-page .ensures in
-    (omega arith, ap length e ∙ length-within _ _ _ _ ∙ l .inv .1, e ∙ rw (l .inv .2, add-one (l .q)))
+    (omega arith, ap length e ∙ length-within _ _ _ _ ∙ l .inv .1, e ∙ rw (l .inv .2) (sym (emptied-next _ _ _ (l .q))))
 
 same-length : tie.Need-same-length Inv-loop μ-loop
 same-length c = c .before .loop .inv .1

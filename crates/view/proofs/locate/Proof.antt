@@ -4,8 +4,8 @@ use borrow.Author.Needs.{needs}
 use borrow.Author.Tests.{eq-eqb, ne-eqb}
 use Rattle.model.specs.View.{viewed}
 use Rattle.model.proofs.Sizes.{partition-at-max, buffer-at-max}
-use Rattle.view.proofs.place.Statement.{statement}
-use Rattle.view.proofs.place.Tie as tie
+use Rattle.view.proofs.locate.Statement.{statement}
+use Rattle.view.proofs.locate.Tie as tie
 
 add-at : tie.Need-add-at
 add-at c =
@@ -17,12 +17,12 @@ returns : tie.Need-returns
 unfolding viewed
 returns c = rw (eq-eqb _ _ (c .before .before .before .if1 .taken), c .before .before .partition-at .ensures, c .before .buffer-at .ensures)
 
-place-in-flash-requires : tie.Need-place-in-flash-requires
-place-in-flash-requires c κs = let p = c .before .before .pre in (p .0, (p .1 .0, (p .1 .1 .0, (p .1 .1 .1, omega arith))))
+locate-in-flash-requires : tie.Need-locate-in-flash-requires
+locate-in-flash-requires c κs = let p = c .before .before .pre in (p .0, (p .1 .0, (p .1 .1 .0, (p .1 .1 .1, omega arith))))
 
 returns-2 : tie.Need-returns-2
 unfolding viewed
-returns-2 c = rw (ne-eqb _ _ (c .before .if1 .left)) (c .place-in-flash .ensures)
+returns-2 c = rw (ne-eqb _ _ (c .before .if1 .left)) (c .locate-in-flash .ensures)
 
-pub place-spec : {M : Type 1} → statement M
-place-spec = tie.close (tie.spec (λ c κs. search needs) (λ c κs. search needs) add-at (λ c. search needs) returns place-in-flash-requires returns-2)
+pub locate-spec : {M : Type 1} → statement M
+locate-spec = tie.close (tie.spec (λ c κs. search needs) (λ c κs. search needs) add-at (λ c. search needs) returns locate-in-flash-requires returns-2)
