@@ -15,8 +15,11 @@ use borrow.Author.Needs.{needs}
 use Rattle.put.proofs.unlist.Statement.{statement}
 use Rattle.put.proofs.unlist.Tie as tie
 
+abbrev start : tie.After-read → tie.Start
+start c = c .before .before .before .before .before .before .before .before
+
 -- the place that was found
-at : (c : tie.After-read) → let a = c .before .before .before .before .before .before .before .before .args in listedAt (listedOf (a .part .now)) (a .key) (listOf (a .g) (a .part .now)) ≡ some (c .before .before .before .i .given .0 .0)
+at : (c : tie.After-read) → let a = start c .args in listedAt (listedOf (a .part .now)) (a .key) (listOf (a .g) (a .part .now)) ≡ some (c .before .before .before .i .given .0 .0)
 at c = told-at (c .before .before .before .before .before .find .ensures) (c .before .before .before .i .given .1)
 
 read-requires : tie.Need-read-requires
@@ -27,13 +30,13 @@ strike-requires c κs =
     let r = c .before .before in
     let w = first-at _ _ _ _ (at r) in
     let n = listed-is (r .read .ensures) in
-    (r .before .before .before .before .before .before .before .before .pre .0, (omega arith, omega (arith, head-fits _ _ (r .before .before .before .before .before .before .before .before .pre .1) .list)))
+    (start r .pre .0, (omega arith, omega (arith, head-fits _ _ (start r .pre .1) .list)))
 
 unlisted-requires : tie.Need-unlisted-requires
 unlisted-requires c κs = let r = c .before .before .before .before .before .before in let w = first-at _ _ _ _ (at r) in omega (arith, listed-is (r .read .ensures))
 
 put-back-requires : tie.Need-put-back-requires
-put-back-requires c κs = let r = c .before .before .before .before .before .before .before in omega (arith, list-inside _ _ (r .before .before .before .before .before .before .before .before .pre .0))
+put-back-requires c κs = let r = c .before .before .before .before .before .before .before in omega (arith, list-inside _ _ (start r .pre .0))
 
 returns : tie.Need-returns
 unfolding unlisted
