@@ -23,5 +23,5 @@ answered-length r = (some r, length-answer (answered r))
   where
     some : (r : Answer) → 1 ≤ length (answerText (answered r))
     some (Answer.Found h) = unfold answerText in simp length-append (omega arith)
-    some (Answer.Missing n) = unfold answerText in simp length-append (omega arith)
+    some (Answer.Absent t) = unfold answerText in simp length-append (omega arith)
     some (Answer.Refused r) = unfold answerText in simp length-append (omega arith)
