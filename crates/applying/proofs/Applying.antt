@@ -16,8 +16,8 @@ use Rattle.applying.specs.Applies.{room, Applies}
 
 pub calls : {line : List ℕ} {c : Call} {m f m′ f′ : List ℕ} {r : Answer} {at next : ℕ} {o o′ : List ℕ} → at + room ≤ length o → callOf line ≡ some c → Performs c m f r m′ f′ → Puts (answerText r) at o next o′ → Applies line (areas m f) at o next o′ (areas m′ f′)
 unfolding linePrints lineLeaves
-calls {r = r} l e p w = record { fits = omega (arith, w .place, length-answer r); prints = rw (e, ← p .answers) w; leaves = rw e (p .leaves) }
+calls {r = r} l e p w = record { fits = omega (arith, w .ends, length-answer r); prints = rw (e, ← p .answers) w; leaves = rw e (p .leaves) }
 
 pub bad : {line : List ℕ} {a : Areas} {at next : ℕ} {o o′ : List ℕ} → at + room ≤ length o → callOf line ≡ none → Puts (text "(bad)\n") at o next o′ → Applies line a at o next o′ a
 unfolding linePrints lineLeaves
-bad l e w = record { fits = omega (arith, w .place); prints = rw e w; leaves = rw e }
+bad l e w = record { fits = omega (arith, w .ends); prints = rw e w; leaves = rw e }

@@ -20,7 +20,7 @@ pub kept : (rest : Rest) (xs ys : List ℕ) (r : ℕ) → Held rest xs → Puts 
 kept rest xs ys r h p =
     let size : length (take (rest .end) xs) ≡ rest .end = length-take-le (rest .end) xs (h .within) in
     let fits : length (take longest (heldBytes rest xs)) ≤ length (take (rest .end) xs) = rw (length-take, length-drop) (omega arith) in
-    let within : r ≤ length ys = omega (arith, p .place, simp length-sets at (ap length (p .holds))) in
+    let within : r ≤ length ys = omega (arith, p .ends, simp length-sets at (ap length (p .holds))) in
     record { within = simp length-append (omega arith); stands = take-append-le r ys _ within ∙ stands _ _ r ys p fits }
 
 module _ {n : ℕ} {rest : Rest} {xs ys : List ℕ} (k : AtStart n rest xs ys) (h : Held rest xs) where

@@ -13,7 +13,7 @@ use Rattle.lines.proofs.Cutting.{unended-drop, same-cut}
 
 -- bytes put at the start stand there
 pub stands : (bytes xs : List ℕ) (r : ℕ) (s : List ℕ) → Puts bytes 0 xs r s → length bytes ≤ length xs → take r s ≡ bytes
-stands bytes xs r s p l = rw (p .holds, sets-eq bytes xs 0 (omega arith)) (take-at bytes _ r (omega (arith, p .place)))
+stands bytes xs r s p l = rw (p .holds, sets-eq bytes xs 0 (omega arith)) (take-at bytes _ r (omega (arith, p .ends)))
 
 -- one byte more is moved; it lies behind those that were written
 pub keep-more : (xs s : List ℕ) (from n : ℕ) → n < length xs - from → s ≡ sets xs 0 (take n (drop from xs)) → set s n (getD s (from + n) 0) ≡ sets xs 0 (take (n + 1) (drop from xs))
@@ -33,7 +33,7 @@ module _ (xs s : List ℕ) (from n : ℕ) (small : n ≤ longest) (inside : n �
   length-kept = rw (← kept, length-take, length-drop) (omega arith)
 
   puts-kept : Puts (take longest (drop from xs)) 0 xs n s
-  puts-kept = record { place = omega (arith, length-kept); holds = e ∙ ap (λ (ys : List ℕ). sets xs 0 ys) kept }
+  puts-kept = record { ends = omega (arith, length-kept); holds = e ∙ ap (λ (ys : List ℕ). sets xs 0 ys) kept }
 
   pub rest-kept : Puts (take longest (drop from xs)) 0 xs n s × (Unended from xs → Same (drop from xs) (take n s))
   rest-kept = (puts-kept, λ h. rw (stands (take longest (drop from xs)) xs n s puts-kept (omega (arith, length-kept))) (same-cut (drop from xs) (unended-drop from xs h)))

@@ -143,13 +143,6 @@ module _ (g : Geometry) (k : ℕ) (p : List ℕ) where
   unfolding delChecks
   del-full e = rw e
 
-  pub del-accepted : delChecks g k p ≡ none
-      → (keyOverfull g k p ≡ false) × (not (isListed g k p) && isSome (stampFor g k p) && eqb (listedOf p) (g .list) ≡ false)
-  unfolding delChecks
-  del-accepted e =
-      let one = refuse-none (keyOverfull g k p) 12 _ e in
-      (one .0, refuse-none (not (isListed g k p) && isSome (stampFor g k p) && eqb (listedOf p) (g .list)) 14 none (one .1) .0)
-
 -- ---- flush: 4, 12, 15, 16
 module _ (g : Geometry) (t : ℕ) (p : List ℕ) where
   pub flush-4 : partitions g ≤ t → flushChecks g t p ≡ some (unread 4)

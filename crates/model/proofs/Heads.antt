@@ -5,7 +5,7 @@ use mathlib.Core.Path.{_≡_, refl}
 use mathlib.Core.List.{List}
 use native.Mathlib.Omega.{arith}
 use lib.Dec.{ltb, leb}
-use lib.ListN.{length, getD}
+use lib.ListN.{length}
 use borrow.Author.Tests.{ltb-true, ltb-false, leb-true, lt-ltb, le-ltb, le-leb}
 use Rattle.model.specs.declared.Geometry.{Geometry}
 use Rattle.model.specs.Bytes.{write, zeros}
@@ -13,7 +13,7 @@ use Rattle.model.specs.Partition.{Head, headOf, flushedHead, listedHead,
 use Rattle.model.specs.Refusals.{headOverfull}
 use Rattle.model.specs.DeleteList.{unexpired}
 use Rattle.model.specs.Flush.{headAfter}
-use Rattle.model.proofs.Words.{length-write, word-lt, word-write, word-write-out, word-zero}
+use Rattle.model.proofs.Words.{length-write, word-write, word-write-out, word-zero}
 use Rattle.model.proofs.ListEntries.{unexpired-le}
 use Rattle.model.proofs.Tests.{both-true}
 
@@ -63,10 +63,6 @@ head-back h p room w =
       word-write 8 (h .rest) 8 (write 4 (h .listed) 4 (write 4 (h .flushes) 0 p)) (simp length-write (omega arith)) (w .rest),
     )
 
--- a head that is read from bytes
-pub head-words : (p : List ℕ) → ((i : ℕ) → getD p i 0 < 256) → HeadWords (headOf p)
-head-words p bytes = record { flushes = word-lt 4 p 0 bytes; listed = word-lt 4 p 4 bytes; rest = word-lt 8 p 8 bytes }
-
 -- and each change of it
 pub words-flushed : (h : Head) → HeadWords h → h .flushes + 1 < 2 ^ 32 → HeadWords (flushedHead h)
 words-flushed h w more = record { flushes = more; listed = w .listed; rest = w .rest }
@@ -101,12 +97,17 @@ module _ (g : Geometry) (p : List ℕ) where
   unfolding headAfter live
   live-after = omega arith
 
--- ---- in zeros, which a format leaves, it is 0
-pub live-zeros : (g : Geometry) (n : ℕ) → live g (headOf (zeros n)) ≡ 0
-unfolding live
-live-zeros g n = omega (arith, word-zero 4 n 0)
+  -- and it still fits
+  pub fits-after : headOverfull g (headOf p) ≡ false → headOverfull g (headAfter g p) ≡ false
+  fits-after e =
+      let h = head-fits g (headOf p) e in
+      fits-head g (headAfter g p) (record {
+        list = omega (arith, listed-after, unexpired-le (g .kept) (flushesOf p) (listedOf p) (listOf g p), h .list);
+        kept = omega (arith, live-after);
+        flushed = omega (arith, live-after, flushes-after, h .flushed);
+      })
 
--- ---- a change of the list leaves it
+-- ---- the live number: a change of the list leaves it
 pub live-listed : (g : Geometry) (h : Head) → live g (listedHead h) ≡ live g h
 unfolding live
 live-listed g h = refl
@@ -114,3 +115,8 @@ live-listed g h = refl
 pub live-unlisted : (g : Geometry) (n : ℕ) (h : Head) → live g (unlistedHead n h) ≡ live g h
 unfolding live
 live-unlisted g n h = refl
+
+-- and in zeros, which a format leaves, it is 0
+pub live-zeros : (g : Geometry) (n : ℕ) → live g (headOf (zeros n)) ≡ 0
+unfolding live
+live-zeros g n = omega (arith, word-zero 4 n 0)

@@ -95,11 +95,6 @@ mid-ext a b n xs ys h k e =
     ext-getD 0 (mid a n xs) (mid b n ys) (length-mid a n xs h ∙ sym (length-mid b n ys k))
     (λ i l. let l′ : i < n = omega (arith, length-mid a n xs h) in getD-mid a n xs i l′ ∙ e i l′ ∙ sym (getD-mid b n ys i l′))
 
-pub mid-mid : (a n j m : ℕ) (xs : List ℕ) → j + m ≤ n → a + n ≤ length xs → mid j m (mid a n xs) ≡ mid (a + j) m xs
-mid-mid a n j m xs h k =
-    mid-ext j (a + j) m (mid a n xs) xs (omega (arith, length-mid a n xs k)) (omega arith)
-    (λ i l. getD-mid a n xs (j + i) (omega arith) ∙ ap (λ (q : ℕ). getD xs q 0) (sym (add-assoc a j i)))
-
 -- ---- within
 short : (n : ℕ) (ys : List ℕ) → length (take n ys) ≤ n
 short n ys = rw length-take (omega arith)

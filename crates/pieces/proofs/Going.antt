@@ -47,7 +47,7 @@ module _ (xs : List ℕ) (taken : ℕ) (inside : taken ≤ length xs) where
     pub went-all : {a₁ a₂ : Areas} {o′ : List ℕ} → r ≡ 0 → room ≤ length o → Ran (take r rest) a₁ o n o′ a₂ → Unended taken xs
     unfolding linesPrint linesOf
     went-all z l s i g k e =
-        let none : n ≡ 0 = (rw z at (s .prints .place)) in
+        let none : n ≡ 0 = (rw z at (s .prints .ends)) in
         let u : Unended 0 rest = rw z at (t .all (omega arith)) in
         (rw rest-drop at u) (i - taken) (omega arith) (rw length-drop (omega arith)) (getD-drop taken xs (i - taken) 0 ∙ ap (λ (j : ℕ). getD xs j 0) (omega arith) ∙ e)
 

@@ -14,8 +14,8 @@ use Rattle.printer.proofs.Decimals.{figures-one, decimal-more, length-d
 pub puts-append : {xs ys : List ℕ} {at p r : ℕ} {a b c : List ℕ} → Puts xs at a p b → Puts ys p b r c → Puts (xs ++ ys) at a r c
 puts-append {xs} {ys} {at} {p} {r} {a} {b} {c} f g =
     record {
-      place = omega (arith, length-append xs ys, f .place, g .place);
-      holds = g .holds ∙ rw (f .holds, f .place, sets-append);
+      ends = omega (arith, length-append xs ys, f .ends, g .ends);
+      holds = g .holds ∙ rw (f .holds, f .ends, sets-append);
     }
 
 pub puts-three : {ws : List ℕ} (xs ys zs : List ℕ) {at p r : ℕ} {a b c : List ℕ} → Puts ws at a p b → Puts (xs ++ ys ++ zs) p b r c → Puts (ws ++ xs ++ ys ++ zs) at a r c
@@ -23,7 +23,7 @@ puts-three xs ys zs f g = simp append-assoc (puts-append f (simp append-assoc at
 
 -- a number's last figure, behind those of n / 10
 pub puts-byte : (x at : ℕ) (a : List ℕ) → Puts (x ∷ []) at a (at + 1) (set a at x)
-puts-byte x at a = record { place = refl; holds = refl }
+puts-byte x at a = record { ends = refl; holds = refl }
 
 pub puts-one : (n at : ℕ) (a : List ℕ) → n < 10 → Puts (decimal n) at a (at + 1) (set a at (48 + n))
 puts-one n at a l = rw (figures-one 19 n l) (puts-byte (48 + n) at a)

@@ -1,11 +1,11 @@
--- Bytes written into an area from a place on.
+-- Bytes written into an area.
 use Prim.Native.Nat.{ℕ, _+_}
 use mathlib.Core.List.{List}
 use mathlib.Core.Path.{_≡_}
 use lib.ListN.{length}
 use lib.Seq.{sets}
 
--- the bytes stand in `later` from `at` on, all else is as in `before`, and r is the place behind them
+-- the bytes stand in `later` from `at` on, all else is as in `before`, and r is where they end
 pub record Puts (bytes : List ℕ) (at : ℕ) (before : List ℕ) (r : ℕ) (later : List ℕ) : Type 0 where
-  pub place : r ≡ at + length bytes
+  pub ends : r ≡ at + length bytes
   pub holds : later ≡ sets before at bytes

@@ -9,19 +9,18 @@ use Rattle.model.specs.declared.Geometry.{Geometry}
 use Rattle.model.specs.Answers.{done}
 use Rattle.model.specs.Bytes.{within}
 use Rattle.model.specs.Calls.{Call, checks}
-use Rattle.model.specs.Flush.{headAfter, flushed, withBatch}
+use Rattle.model.specs.Flush.{flushed, withBatch}
 use Rattle.model.specs.Geometry.{partitions, stride, partitionAt}
 use Rattle.model.specs.Keys.{partitionOf, pageOf}
 use Rattle.model.specs.Page.{countOf}
-use Rattle.model.specs.Partition.{headOf, flushesOf, listedOf, listOf, bufferOf, partition}
+use Rattle.model.specs.Partition.{headOf, bufferOf, partition}
 use Rattle.model.specs.Put.{putChecks, unlisted, buffered, putIn}
 use Rattle.model.specs.Refusals.{headOverfull}
 use Rattle.model.proofs.Calls.{checks-put, result-put, effect-put}
 use Rattle.model.proofs.Checks.{fits-key}
 use Rattle.model.proofs.Entries.{count-emptied}
-use Rattle.model.proofs.Heads.{HeadWords, head-fits, fits-head, flushes-after, listed-after, live-after}
+use Rattle.model.proofs.Heads.{HeadWords, fits-after}
 use Rattle.model.proofs.Lengths.{length-buffered, length-flushed, length-unlisted}
-use Rattle.model.proofs.ListEntries.{unexpired-le}
 use Rattle.model.proofs.Parts.{mid-within, within-twice, within-same}
 use Rattle.model.proofs.PartitionsCalls.{laid-flushed, put-kept, put-flushed}
 use Rattle.model.proofs.Sizes.{sizes, partition-of-lt, page-of-lt}
@@ -31,7 +30,7 @@ use Rattle.answers.specs.Performs.{areas, Performs}
 use Rattle.answers.proofs.Performing as performing
 use Rattle.opening.specs.Opened.{IsTable}
 use Rattle.partition.specs.Ready.{Whole, Storable, Flushable}
-use Rattle.partition.proofs.Lending.{partition-inside, partition-whole, partition-words}
+use Rattle.partition.proofs.Lending.{partition-inside, key-whole, partition-words}
 use Rattle.put.specs.declared.Plan.{Plan}
 use Rattle.put.specs.declared.Plan.the-variants.{Refused, Store, Flush}
 use Rattle.put.specs.Plans.{planFor}
@@ -39,24 +38,14 @@ use Rattle.put.proofs.Planning.{Means, plan-means, storable, flushable}
 
 -- ---- behind a flush
 module _ (g : Geometry) (p : List ℕ) where
-  -- the head is not overfull
-  after-fits : headOverfull g (headOf p) ≡ false → headOverfull g (headAfter g p) ≡ false
-  after-fits e =
-      let h = head-fits g (headOf p) e in
-      fits-head g (headAfter g p) (record {
-        list = omega (arith, listed-after g p, unexpired-le (g .kept) (flushesOf p) (listedOf p) (listOf g p), h .list);
-        kept = omega (arith, live-after g p);
-        flushed = omega (arith, live-after g p, flushes-after g p, h .flushed);
-      })
-
-  -- and the key's page is empty
+  -- nothing is overfull, and the key's page is empty
   flushed-storable : Whole g p → HeadWords (headOf p) → (t k : ℕ) → Flushable g t p → Storable g k (flushed g t p)
   flushed-storable w words t k can =
       let l = laid-flushed g (w .fine) p (w .long) words t (omega (arith, can .number)) in
       let z = sizes g (w .fine) in
       let empty : countOf (bufferOf g (flushed g t p) (pageOf g k)) ≡ 0 = ap (λ (x : List ℕ). countOf x) (l .buffer (pageOf g k) (page-of-lt g (w .fine) k)) ∙ count-emptied (pageOf g k) t _ in
       record {
-        fits = fits-key g (flushed g t p) k (ap (headOverfull g) (l .head) ∙ after-fits (can .head)) (omega (arith, empty));
+        fits = fits-key g (flushed g t p) k (ap (headOverfull g) (l .head) ∙ fits-after g p (can .head)) (omega (arith, empty));
         room = λ n. omega (arith, empty, z .capacity-min);
       }
 
@@ -103,7 +92,7 @@ module _ (g : Geometry) (m f : List ℕ) (table : IsTable g m f) (k : ℕ) where
     inside = partition-inside g m (table .fine) (table .memoryFits) t below
 
     pub whole : Whole g own
-    whole = partition-whole g m (table .fine) (table .memoryFits) t below
+    whole = key-whole g m (table .fine) (table .memoryFits) k key
 
     module _ (bytes : (i : ℕ) → getD m i 0 < 256) (h : planFor g k own ≡ Flush) where
       pub can-flush : Flushable g t own

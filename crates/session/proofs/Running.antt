@@ -19,7 +19,7 @@ use Rattle.session.proofs.Pieces.{leave-pieces, print-pieces}
 
 pub ran-none : (a : Areas) (o : List ℕ) → Ran [] a o 0 o a
 unfolding linesOf linesPrint linesLeave
-ran-none a o = record { fits = omega arith; prints = record { place = refl; holds = refl }; leaves = refl }
+ran-none a o = record { fits = omega arith; prints = record { ends = refl; holds = refl }; leaves = refl }
 
 -- ---- a line and the byte that ends it
 abbrev ended : List ℕ → List ℕ

@@ -63,7 +63,7 @@ module _ {t : ℕ} {xs : List ℕ} {from : ℕ} {a : Areas} {n p : ℕ} (g : Goe
     pub goes-more : {a′ : Areas} {p′ : ℕ} {o o′ : List ℕ} → p + room ≤ n → Applies line a p o p′ o′ a′ → Goes t xs (end + 1) a′ n p′
     unfolding takenOf
     goes-more {p′ = p′} h s =
-        let free : n - p - length (linePrints line a) ≡ n - p′ = omega (arith, s .prints .place) in
+        let free : n - p - length (linePrints line a) ≡ n - p′ = omega (arith, s .prints .ends) in
         let size : length line ≡ end - from = length-mid from (end - from) xs (omega (arith, e .begins)) in
         let now = rw (rest, ended-line line (drop (end + 1) xs) (line-unended xs from end e l), le-leb room (n - p) (omega arith), free, ← s .leaves) at (g .sum) in
         record { sum = omega (arith, now, size, e .begins) }

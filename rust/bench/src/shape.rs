@@ -24,23 +24,11 @@ pub struct Shape {
     pub counted: bool,
 }
 
-const SMALL: Geometry = geometry([0, 64, 1, 2, 64, 3, 1]);
+const SMALL: Geometry = Geometry::new([0, 64, 1, 2, 64, 3, 1]);
 
-const MIDDLE: Geometry = geometry([4, 4096, 16, 16, 65536, 4, 256]);
+const MIDDLE: Geometry = Geometry::new([4, 4096, 16, 16, 65536, 4, 256]);
 
-const LARGEST: Geometry = geometry([8, 4096, 64, 32, 65536, 8, 1024]);
-
-const fn geometry(n: [u32; 7]) -> Geometry {
-    Geometry {
-        parts: n[0],
-        page: n[1],
-        pages: n[2],
-        kept: n[3],
-        bits: n[4],
-        hashes: n[5],
-        list: n[6],
-    }
-}
+const LARGEST: Geometry = Geometry::new([8, 4096, 64, 32, 65536, 8, 1024]);
 
 pub fn all() -> Vec<Shape> {
     let small = Shape {

@@ -29,6 +29,21 @@ pub struct Geometry {
 }
 
 impl Geometry {
+    /// The numbers in the order of document 01's table.
+    #[inline]
+    pub const fn new(numbers: [u32; 7]) -> Geometry {
+        let [parts, page, pages, kept, bits, hashes, list] = numbers;
+        Geometry {
+            parts,
+            page,
+            pages,
+            kept,
+            bits,
+            hashes,
+            list,
+        }
+    }
+
     /// Whether all seven numbers are in document 01's table.
     #[inline]
     pub fn is_allowed(&self) -> bool {
@@ -71,16 +86,8 @@ impl Geometry {
     #[inline]
     pub fn from_opening(opening: &[u8; OPENING_BYTES]) -> Option<Geometry> {
         let (words, _) = opening.as_chunks::<4>();
-        let number = |place: usize| u32::from_le_bytes(words[place]);
-        let geometry = Geometry {
-            parts: number(0),
-            page: number(1),
-            pages: number(2),
-            kept: number(3),
-            bits: number(4),
-            hashes: number(5),
-            list: number(6),
-        };
+        let number = |i: usize| u32::from_le_bytes(words[i]);
+        let geometry = Geometry::new(std::array::from_fn(number));
         (number(7) == 0).then_some(geometry)
     }
 }

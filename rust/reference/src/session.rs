@@ -78,15 +78,15 @@ impl<'a> Text<'a> {
 
     /// Takes format's seven parts, parted by one space, in their one order.
     fn geometry(&mut self) -> Option<Geometry> {
-        Some(Geometry {
-            parts: self.part(b"(parts ")?,
-            page: self.part(b" (page ")?,
-            pages: self.part(b" (pages ")?,
-            kept: self.part(b" (kept ")?,
-            bits: self.part(b" (bits ")?,
-            hashes: self.part(b" (hashes ")?,
-            list: self.part(b" (list ")?,
-        })
+        Some(Geometry::new([
+            self.part(b"(parts ")?,
+            self.part(b" (page ")?,
+            self.part(b" (pages ")?,
+            self.part(b" (kept ")?,
+            self.part(b" (bits ")?,
+            self.part(b" (hashes ")?,
+            self.part(b" (list ")?,
+        ]))
     }
 
     fn part(&mut self, head: &[u8]) -> Option<u32> {

@@ -2,7 +2,7 @@
 
 mod common;
 
-use common::{found, geometry, none, refused, Table, G};
+use common::{found, none, refused, Table, G};
 use reference::key::{mix, Bits};
 use reference::{format, Geometry, Layout};
 
@@ -21,7 +21,7 @@ fn case_1_the_needs_of_the_session_geometry() {
 
 #[test]
 fn case_2_the_needs_of_the_largest_geometry() {
-    let largest = layout(geometry([8, 4096, 64, 32, 65536, 8, 1024]));
+    let largest = layout(Geometry::new([8, 4096, 64, 32, 65536, 8, 1024]));
     assert_eq!(largest.memory_need(), 138_416_160);
     assert_eq!(largest.flash_need(), 2_147_483_648);
 }
@@ -90,7 +90,7 @@ fn case_8_del_of_an_absent_key_in_a_fresh_table() {
 #[test]
 fn case_9_entries_in_a_page() {
     assert_eq!(layout(G).entries(), 3);
-    let large = geometry([0, 4096, 1, 2, 64, 3, 1]);
+    let large = Geometry::new([0, 4096, 1, 2, 64, 3, 1]);
     assert_eq!(layout(large).entries(), 255);
 }
 

@@ -5,7 +5,7 @@ mod common;
 
 use common::call::{call_index, Answer, Call};
 use common::oracle::call_oracle;
-use common::{flash_need, geometry, memory_need, set_word, Rng, Table};
+use common::{flash_need, memory_need, set_word, Rng, Table};
 use reference::Geometry;
 
 fn random_call(rng: &mut Rng, g: Geometry, keys: &[u64]) -> Call {
@@ -249,6 +249,6 @@ fn formats_of_any_numbers() {
         let (memory_length, flash_length) = (rng.below(4000), rng.below(4000));
         let mut memory = rng.bytes(memory_length);
         let mut flash = rng.bytes(flash_length);
-        compare(Call::Format(geometry(n)), &mut memory, &mut flash);
+        compare(Call::Format(Geometry::new(n)), &mut memory, &mut flash);
     }
 }

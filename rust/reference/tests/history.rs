@@ -6,7 +6,7 @@ mod common;
 use std::collections::HashMap;
 
 use common::call::{call_index, Answer, Call};
-use common::{flash_need, geometry, memory_need, Rng};
+use common::{flash_need, memory_need, Rng};
 use reference::Geometry;
 
 /// What document 01 holds of a list of calls, fed from the arguments, the
@@ -185,11 +185,11 @@ fn long_lists_of_calls_in_small_geometries() {
 #[test]
 fn long_lists_of_calls_in_larger_geometries() {
     let geometries = [
-        geometry([8, 64, 1, 32, 64, 8, 1]),
-        geometry([0, 4096, 64, 2, 65536, 8, 1024]),
-        geometry([2, 1024, 8, 32, 8192, 5, 64]),
-        geometry([5, 256, 4, 7, 1024, 6, 20]),
-        geometry([0, 64, 64, 32, 512, 1, 1000]),
+        Geometry::new([8, 64, 1, 32, 64, 8, 1]),
+        Geometry::new([0, 4096, 64, 2, 65536, 8, 1024]),
+        Geometry::new([2, 1024, 8, 32, 8192, 5, 64]),
+        Geometry::new([5, 256, 4, 7, 1024, 6, 20]),
+        Geometry::new([0, 64, 64, 32, 512, 1, 1000]),
     ];
     for (seed, g) in geometries.into_iter().enumerate() {
         println!("seed {seed}, {g:?}");

@@ -2,11 +2,11 @@
 
 mod common;
 
-use common::{found, geometry, none, record, Table, G, WIDE};
+use common::{found, none, record, Table, G, WIDE};
 use reference::Geometry;
 
 /// One partition of one page, three batches, six list places.
-const LISTS: Geometry = geometry([0, 64, 1, 3, 1024, 8, 6]);
+const LISTS: Geometry = Geometry::new([0, 64, 1, 3, 1024, 8, 6]);
 
 #[test]
 fn the_stamp_is_the_youngest_batch_that_passes() {

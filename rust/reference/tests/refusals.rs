@@ -2,7 +2,7 @@
 
 mod common;
 
-use common::{found, geometry, none, refused, set_word, Table, G, WIDE};
+use common::{found, none, refused, set_word, Table, G, WIDE};
 use reference::{format, Geometry, Refusal};
 
 type Call = fn(&mut Table) -> Result<(), Refusal>;
@@ -63,7 +63,7 @@ fn refusal_1_each_number_at_its_edges() {
         let with = |number: u32| {
             let mut numbers = [0, 64, 1, 2, 64, 3, 1];
             numbers[place] = number;
-            geometry(numbers)
+            Geometry::new(numbers)
         };
         for &number in allowed {
             // No memory at all: an allowed geometry goes on to refusal 2.
@@ -244,7 +244,7 @@ fn refusal_13_for_each_field_of_the_head() {
 
 #[test]
 fn refusal_13_counts_the_pages_read() {
-    let mut table = Table::new(geometry([0, 64, 1, 3, 64, 1, 1]));
+    let mut table = Table::new(Geometry::new([0, 64, 1, 3, 64, 1, 1]));
     for value in 1..=3 {
         table.put(7, value).unwrap();
         table.flush(0).unwrap();

@@ -4,15 +4,14 @@ use native.Mathlib.Omega.{arith}
 use borrow.Author.Needs.{needs}
 use Rattle.model.specs.Keys.{partitionOf}
 use Rattle.model.specs.Partition.{partition}
-use Rattle.model.proofs.Sizes.{partition-of-lt}
-use Rattle.partition.proofs.Lending.{partition-whole}
+use Rattle.partition.proofs.Lending.{key-whole}
 use Rattle.del.specs.Plans.{planFor}
 use Rattle.del.proofs.Calling.{refuses, does-nothing, can-remove, removes}
 use Rattle.del.proofs.call.Statement.{statement}
 use Rattle.del.proofs.call.Tie as tie
 
 decide-requires : tie.Need-decide-requires
-decide-requires c κs = let s = c .before .before .before .before in rw (c .part-of-key .ensures) (partition-whole _ _ (s .pre .fine) (s .pre .memoryFits) _ (partition-of-lt _ (s .pre .fine) (s .args .key) (omega arith)))
+decide-requires c κs = let s = c .before .before .before .before in rw (c .part-of-key .ensures) (key-whole _ _ (s .pre .fine) (s .pre .memoryFits) _ (omega arith))
 
 -- the plan is for the key's partition
 decided : (c : tie.After-decide) → let a = c .before .before .before .before .before .args in planFor (a .g) (a .key) (partition (a .g) (partitionOf (a .g) (a .key)) (a .memory .now)) ≡ c .decide .result

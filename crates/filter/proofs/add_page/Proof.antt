@@ -21,9 +21,13 @@ Inv-loop s₀ at g page n entry₀ s entry = (entry ≤ n) × (n ≡ countOf (mi
 abbrev μ-loop : tie.MeasureT-loop
 μ-loop s₀ at g page n entry₀ s entry = n - entry
 
+-- where a turn's facts go back to
+abbrev start : tie.In-loop Inv-loop μ-loop → tie.Start Inv-loop μ-loop
+start c = c .before .before .before .before .before
+
 -- an entry within the count lies in the page
-room : (c : tie.In-loop Inv-loop μ-loop) → 16 * (c .before .loop .entry + 1) + 8 ≤ c .before .before .before .before .before .args .g .page
-room c = let z = sizes _ (c .before .before .before .before .before .pre .0) in omega arith
+room : (c : tie.In-loop Inv-loop μ-loop) → 16 * (c .before .loop .entry + 1) + 8 ≤ start c .args .g .page
+room c = let z = sizes _ (start c .pre .0) in omega arith
 
 u16-at-requires : tie.Need-u16-at-requires Inv-loop μ-loop
 u16-at-requires c κs = let z = sizes _ (c .before .before .pre .0) in omega arith
@@ -36,11 +40,11 @@ loop-holds c =
     (omega arith, rw (word-mid 2 (a .s .now) (a .page) (a .g .page) 0 (omega arith), add-zero) (c .u16-at .ensures), refl, sym (within-id _ _ _ _ (omega arith) refl))
 
 add-key-requires : tie.Need-add-key-requires Inv-loop μ-loop
-add-key-requires c κs = (c .before .before .before .before .before .before .before .before .before .pre .0, omega arith)
+add-key-requires c κs = (start (c .before .before .before .before) .pre .0, omega arith)
 
 loop-again : tie.Need-loop-again Inv-loop μ-loop
 loop-again c =
-    let p = c .before .before .before .before .before .before .before .before .before .before .before .before .pre in
+    let p = start (c .before .before .before .before .before .before .before) .pre in
     let l = c .before .before .before .before .before .before .before .before .loop in
     (omega arith, l .inv .1, omega arith, c .before .before .add-key .ensures ∙ rw (c .before .before .before .mix .ensures, c .before .before .before .before .before .u64-at .ensures) (entry-added _ _ _ _ _ _ (p .1 .0) (p .1 .1 .0) (room (c .before .before .before .before .before .before .before)) (l .inv .3)))
 

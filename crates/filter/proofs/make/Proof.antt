@@ -19,9 +19,16 @@ Inv-loop part₀ g j at size pages q₀ part q = (q ≤ pages) × (length part �
 abbrev μ-loop : tie.MeasureT-loop
 μ-loop part₀ g j at size pages q₀ part q = pages - q
 
+-- ---- the steps that the facts go back to
+abbrev start : tie.After-filter-at Inv-loop μ-loop → tie.Start Inv-loop μ-loop
+start c = c .before .before
+
+abbrev begun : tie.In-loop Inv-loop μ-loop → tie.After-filter-at Inv-loop μ-loop
+begun c = c .before .before .before .before .before .before .before
+
 -- the filter lies in front of the buffer
-place : (c : tie.After-filter-at Inv-loop μ-loop) → let g = c .before .before .args .g in (c .filter-at .result + filterSize g ≤ bufferAt g 0) × (bufferAt g 0 ≤ stride g)
-place c = let b = c .before .before in omega (arith, filter-fits (b .args .g) _ (b .pre .1 .0), buffer-end (b .args .g))
+place : (c : tie.After-filter-at Inv-loop μ-loop) → let g = start c .args .g in (c .filter-at .result + filterSize g ≤ bufferAt g 0) × (bufferAt g 0 ≤ stride g)
+place c = let b = start c in omega (arith, filter-fits (b .args .g) _ (b .pre .1 .0), buffer-end (b .args .g))
 
 -- where the filter was made zero, and the loop begins
 zeroed : (c : tie.After-zero Inv-loop μ-loop) → let a = c .before .before .before .before .before .args in c .zero .last .0 ≡ within (c .before .before .before .filter-at .result) (filterSize (a .g)) (λ _. zeros (filterSize (a .g))) (a .part .now)
@@ -32,8 +39,8 @@ unfolding withPages
 loop-holds c = (omega arith, refl, sym (within-id _ _ _ _ (omega (arith, place (c .before .before .before .before .before))) refl))
 
 -- a turn's page lies behind the filter, in the partition
-room : (c : tie.In-loop Inv-loop μ-loop) → let a = c .before .before .before .before .before .before .before .before .before .args in let q = c .before .loop .q in (c .before .before .before .before .before .before .before .filter-at .result + filterSize (a .g) ≤ bufferAt (a .g) q) × (bufferAt (a .g) q + a .g .page ≤ length (a .part .now)) × (length (c .before .before .before .before .zero .last .0) ≡ length (a .part .now))
-room c = let g = c .before .before .before .before .before .before .before .before .before .args .g in omega (arith, place (c .before .before .before .before .before .before .before), buffer-from g (c .before .loop .q), buffer-fits g (c .before .loop .q) (omega arith))
+room : (c : tie.In-loop Inv-loop μ-loop) → let a = start (begun c) .args in let q = c .before .loop .q in (begun c .filter-at .result + filterSize (a .g) ≤ bufferAt (a .g) q) × (bufferAt (a .g) q + a .g .page ≤ length (a .part .now)) × (length (c .before .before .before .before .zero .last .0) ≡ length (a .part .now))
+room c = let g = start (begun c) .args .g in omega (arith, place (begun c), buffer-from g (c .before .loop .q), buffer-fits g (c .before .loop .q) (omega arith))
 
 loop-again : tie.Need-loop-again Inv-loop μ-loop
 loop-again c =
@@ -44,15 +51,15 @@ loop-again c =
 add-page-requires : tie.Need-add-page-requires Inv-loop μ-loop
 add-page-requires c κs =
     let r = room (c .before .before) in
-    let b = c .before .before .before .before .before .before .before .before .before .before .before in
+    let b = start (begun (c .before .before)) in
     let l = c .before .before .before .loop in
     (b .pre .0, (omega arith, (omega arith, rw (c .buffer-at .ensures, buffer-kept _ _ _ _ _ (l .q) (r .0) (omega arith) (l .inv .2), buffer-kept _ _ _ _ _ (l .q) (r .0) (r .1) (zeroed (c .before .before .before .before .before .before))) (b .pre .1 .1 .1 (l .q) (omega arith)))))
 
 returns : tie.Need-returns Inv-loop μ-loop
 returns c =
     let p = place (c .before .before .before .before .before .before .before) in
-    let e : c .before .loop .q ≡ c .before .before .before .before .before .before .before .before .before .args .g .pages = omega arith in
+    let e : c .before .loop .q ≡ start (c .before .before .before .before .before .before .before) .args .g .pages = omega arith in
     rw (← c .before .before .before .before .before .before .before .filter-at .ensures) (rw e at (c .before .loop .inv .2) ∙ pages-added _ _ _ _ (p .0) (omega arith) (zeroed (c .before .before .before .before)))
 
 pub make-spec : {M : Type 1} → statement M
-make-spec = tie.close (tie.spec Inv-loop μ-loop (λ c κs. (c .before .pre .0, omega arith)) (λ c κs. tt) (λ c κs. omega (arith, place (c .before .before))) loop-holds (λ c κs. (c .before .before .before .before .before .before .before .before .before .before .pre .0, omega arith)) add-page-requires (λ c. omega arith) (λ c. omega arith) loop-again (λ c. omega arith) returns)
+make-spec = tie.close (tie.spec Inv-loop μ-loop (λ c κs. (c .before .pre .0, omega arith)) (λ c κs. tt) (λ c κs. omega (arith, place (c .before .before))) loop-holds (λ c κs. (start (begun (c .before)) .pre .0, omega arith)) add-page-requires (λ c. omega arith) (λ c. omega arith) loop-again (λ c. omega arith) returns)

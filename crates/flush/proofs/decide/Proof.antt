@@ -15,6 +15,14 @@ use Rattle.partition.proofs.Inside.{list-inside}
 use Rattle.flush.proofs.decide.Statement.{statement}
 use Rattle.flush.proofs.decide.Tie as tie
 
+-- ---- the steps that the facts go back to
+abbrev start : tie.Else2 → tie.Start
+start c = c .before .before .before .before .before .before
+
+abbrev read-at : tie.Else2 → tie.After-read
+read-at c = c .before .before .before .before
+
+-- ---- the tests
 overfull : (c : tie.After-is-overfull) → let a = c .before .before .before .args in c .is-overfull .result ≡ headOverfull (a .g) (headOf (a .part .now))
 overfull c = c .is-overfull .ensures ∙ ap (headOverfull (c .before .before .before .args .g)) (c .before .read .ensures)
 
@@ -31,23 +39,20 @@ returns-2 : tie.Need-returns-2
 returns-2 c = ap some (c .unread2 .ensures) ∙ sym (flush-12-page _ _ _ (c .before .before .before .before .before .before .before .pre .1) (head-fits (c .before .before .before)) (sym (c .before .before .is-some-page-overfull .ensures) ∙ c .before .if2 .taken))
 
 returns-3 : tie.Need-returns-3
-returns-3 c = ap some (c .unread3 .ensures) ∙ sym (flush-last _ _ _ (c .before .before .before .before .before .before .before .before .before .pre .1) (head-fits (c .before .before .before .before .before)) (pages-fit (c .before .before .before)) ∙ rw (sym (c .before .before .is-in-use .ensures) ∙ not-true _ (c .before .if3 .taken)))
+returns-3 c = ap some (c .unread3 .ensures) ∙ sym (flush-last _ _ _ (start (c .before .before .before) .pre .1) (head-fits (c .before .before .before .before .before)) (pages-fit (c .before .before .before)) ∙ rw (sym (c .before .before .is-in-use .ensures) ∙ not-true _ (c .before .if3 .taken)))
 
 -- only the flush number is left to ask for
 in-use : (c : tie.Else3) → let a = c .before .before .before .before .before .before .before .before .args in inUse (a .g) (a .part .now) ≡ true
 in-use c = sym (c .before .is-in-use .ensures) ∙ not-false _ (c .if3 .left)
 
-abbrev start : tie.After-struct-known → tie.Start
-start c = c .before .before .before .before .before .before .before .before .before
-
-number : (c : tie.After-struct-known) → let a = start c .args in (b : Bool) → eqb (flushesOf (a .part .now)) lastFlush ≡ b → flushChecks (a .g) (a .t) (a .part .now) ≡ refuseIf b 16 none
-number c b e = flush-last _ _ _ (start c .pre .1) (head-fits (c .before .before .before .before .before)) (pages-fit (c .before .before .before)) ∙ rw (in-use (c .before), e)
+number : (c : tie.After-struct-known) → let a = start (c .before .before .before) .args in (b : Bool) → eqb (flushesOf (a .part .now)) lastFlush ≡ b → flushChecks (a .g) (a .t) (a .part .now) ≡ refuseIf b 16 none
+number c b e = flush-last _ _ _ (start (c .before .before .before) .pre .1) (head-fits (c .before .before .before .before .before)) (pages-fit (c .before .before .before)) ∙ rw (in-use (c .before), e)
 
 returns-4 : tie.Need-returns-4
-returns-4 c = ap some (c .unread4 .ensures) ∙ sym (number (c .before .before) true (eq-eqb _ lastFlush (sym (flushes-is (c .before .before .before .before .before .before .before .before .before .read .ensures)) ∙ c .before .if4 .taken)))
+returns-4 c = ap some (c .unread4 .ensures) ∙ sym (number (c .before .before) true (eq-eqb _ lastFlush (sym (flushes-is (read-at (c .before .before .before .before .before) .read .ensures)) ∙ c .before .if4 .taken)))
 
 returns-5 : tie.Need-returns-5
-returns-5 c = sym (number (c .before) false (ne-eqb _ lastFlush (λ e. c .if4 .left (flushes-is (c .before .before .before .before .before .before .before .before .read .ensures) ∙ e))))
+returns-5 c = sym (number (c .before) false (ne-eqb _ lastFlush (λ e. c .if4 .left (flushes-is (read-at (c .before .before .before .before) .read .ensures) ∙ e))))
 
 pub decide-spec : {M : Type 1} → statement M
 decide-spec = tie.close (tie.spec (λ c κs. omega (arith, list-inside _ _ (c .before .pre .0))) (λ c κs. tt) (λ c κs. tt) returns (λ c κs. search needs) (λ c κs. tt) returns-2 (λ c κs. search needs) (λ c κs. tt) returns-3 (λ c κs. tt) returns-4 returns-5)

@@ -6,19 +6,18 @@ use borrow.Author.Needs.{needs}
 use Rattle.model.specs.Keys.{partitionOf}
 use Rattle.model.specs.Partition.{partition}
 use Rattle.model.specs.Refusals.{keyOverfull}
-use Rattle.model.proofs.Sizes.{partition-of-lt}
 use Rattle.model.proofs.Checks.{get-12, get-passes}
 use Rattle.model.proofs.Calls.{checks-get, result-get, effect-get}
 use Rattle.answers.specs.Told.{asRefusal}
 use Rattle.answers.proofs.Performing.{refusing, looking}
 use Rattle.partition.specs.Ready.{Whole}
-use Rattle.partition.proofs.Lending.{partition-whole}
+use Rattle.partition.proofs.Lending.{key-whole}
 use Rattle.get.proofs.call.Statement.{statement}
 use Rattle.get.proofs.call.Tie as tie
 
 -- the part is the key's partition
 whole : (c : tie.After-part-of-key) → Whole (c .before .before .before .args .g) (c .part-of-key .result .now)
-whole c = let s = c .before .before .before in rw (c .part-of-key .ensures) (partition-whole _ _ (s .pre .fine) (s .pre .memoryFits) _ (partition-of-lt _ (s .pre .fine) (s .args .key) (omega arith)))
+whole c = let s = c .before .before .before in rw (c .part-of-key .ensures) (key-whole _ _ (s .pre .fine) (s .pre .memoryFits) _ (omega arith))
 
 -- and the test is of it
 tested : (c : tie.After-is-overfull) → let a = c .before .before .before .before .args in keyOverfull (a .g) (a .key) (partition (a .g) (partitionOf (a .g) (a .key)) (a .memory .now)) ≡ c .is-overfull .result

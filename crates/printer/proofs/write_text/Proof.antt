@@ -24,7 +24,7 @@ same-length : tie.Need-same-length Inv-loop μ-loop
 same-length c = c .before .loop .inv .1
 
 returns : tie.Need-returns Inv-loop μ-loop
-returns c = let e : c .before .loop .i ≡ length (c .before .before .args .bytes .now) = omega arith in record { place = omega arith; holds = rw (take-all _ (c .before .before .args .bytes .now) (c .loop-test .left)) at (c .before .loop .inv .2) }
+returns c = let e : c .before .loop .i ≡ length (c .before .before .args .bytes .now) = omega arith in record { ends = omega arith; holds = rw (take-all _ (c .before .before .args .bytes .now) (c .loop-test .left)) at (c .before .loop .inv .2) }
 
 pub write-text-spec : {M : Type 1} → statement M
 write-text-spec = tie.close (tie.spec Inv-loop μ-loop loop-holds (λ c. omega arith) (λ c. omega arith) (λ c. omega arith) (λ c. omega arith) (λ c. omega arith) loop-again (λ c. omega arith) same-length returns)

@@ -3,7 +3,7 @@
 use reference::Geometry;
 
 use crate::common::call::Call;
-use crate::common::{flash_need, geometry, memory_need, set_word, Rng, Table};
+use crate::common::{flash_need, memory_need, set_word, Rng, Table};
 use crate::pair::Pair;
 
 fn bytes(g: Geometry) -> usize {
@@ -14,7 +14,7 @@ fn bytes(g: Geometry) -> usize {
 pub fn geometry_within(rng: &mut Rng, most: usize) -> Geometry {
     loop {
         let longest = rng.pick(&[2, 6, 40, 1024]);
-        let g = geometry([
+        let g = Geometry::new([
             rng.below(9) as u32,
             64 << rng.below(7),
             1 << rng.below(7),

@@ -9,22 +9,10 @@ pub mod plain;
 use reference::{Geometry, Lookup, Place, Refusal};
 
 /// The geometry of the worked session.
-pub const G: Geometry = geometry([0, 64, 1, 2, 64, 3, 1]);
+pub const G: Geometry = Geometry::new([0, 64, 1, 2, 64, 3, 1]);
 
 /// A geometry of two partitions, two pages and three batches.
-pub const WIDE: Geometry = geometry([1, 64, 2, 3, 64, 2, 3]);
-
-pub const fn geometry(n: [u32; 7]) -> Geometry {
-    Geometry {
-        parts: n[0],
-        page: n[1],
-        pages: n[2],
-        kept: n[3],
-        bits: n[4],
-        hashes: n[5],
-        list: n[6],
-    }
-}
+pub const WIDE: Geometry = Geometry::new([1, 64, 2, 3, 64, 2, 3]);
 
 /// Splitmix: every run of the tests draws the same numbers.
 pub struct Rng(pub u64);
@@ -52,7 +40,7 @@ impl Rng {
 
     /// A geometry whose batches are soon full and soon gone.
     pub fn small_geometry(&mut self) -> Geometry {
-        geometry([
+        Geometry::new([
             self.below(4) as u32,
             self.pick(&[64, 64, 128, 256]),
             self.pick(&[1, 1, 2, 4]),

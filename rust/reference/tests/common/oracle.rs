@@ -69,7 +69,7 @@ fn format(g: Geometry, memory: &mut [u8], flash: &[u8]) -> Result<Answer, Answer
 fn open(memory: &[u8], flash: &[u8]) -> Result<Geometry, Answer> {
     check(memory.len() >= 32, 2)?;
     let n: Vec<u32> = memory[..32].chunks(4).map(|w| number(w) as u32).collect();
-    let g = super::geometry([n[0], n[1], n[2], n[3], n[4], n[5], n[6]]);
+    let g = Geometry::new([n[0], n[1], n[2], n[3], n[4], n[5], n[6]]);
     check(allowed(g) && n[7] == 0, 11)?;
     lengths(g, memory, flash)?;
     Ok(g)

@@ -8,10 +8,10 @@ use Rattle.bench_cases.proofs.say.written.Statement.{statement}
 use Rattle.bench_cases.proofs.say.written.Tie as tie
 
 sub-end : tie.Need-sub-end
-sub-end c = omega (arith, c .before .write-written .ensures .place, written-length (c .before .before .before .args .answer))
+sub-end c = omega (arith, c .before .write-written .ensures .ends, written-length (c .before .before .before .args .answer))
 
 array-share-prefix-line : tie.Need-array-share-prefix-line
-array-share-prefix-line c = omega (arith, c .before .before .before .write-written .ensures .place, written-length (c .before .before .before .before .before .args .answer))
+array-share-prefix-line c = omega (arith, c .before .before .before .write-written .ensures .ends, written-length (c .before .before .before .before .before .args .answer))
 
 slice-aggregate-text-2 : tie.Need-slice-aggregate-text-2
 slice-aggregate-text-2 c = sym (length-take-le _ _ (array-share-prefix-line (c .before)))
