@@ -118,7 +118,7 @@ fn apply_at(memory: &mut [u8], g: Geometry, key: u64, youngest: Youngest)
     requires { ⌜ Listable g key (stamp youngest) (partition g (partitionOf g key) (now memory)) ⌝ }
     ensures { λ _. ⌜ now (memory .exit) ≡ within (partitionAt g (partitionOf g key)) (stride g) (λ p. listedWith (stamp youngest) g key (unbuffered g key p)) (now (memory .entry)) ⌝ }
 {
-    let a = geometry::partition_at(g, geometry::partition_of(g, key));
+    let a = geometry::key_partition_at(g, key);
     let e = a + geometry::partition_size(g);
     apply(&mut memory[a..e], g, key, youngest);
 }

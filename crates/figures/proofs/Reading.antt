@@ -1,7 +1,7 @@
 -- The number that a line says from a place on, figure by figure.
 use mathlib.Core.Path.{_≡_, refl, sym, _∙_, ap}
 use mathlib.Core.Logic.{⊎-elim}
-use mathlib.Core.Bool.{Bool, true, false, not, cond, _&&_, and-false, false≢true}
+use mathlib.Core.Bool.{Bool, true, false, not, cond, _&&_, and-false}
 use mathlib.Core.List.{List, [], _∷_}
 use mathlib.Core.Option.{none, some, Option·some-injective}
 use Prim.Native.Nat.{ℕ, _+_, _-_, _*_, _≤_, _<_}
@@ -13,18 +13,14 @@ use lib.Seq.{drop-cons, drop-drop}
 use borrow.Author.Tests.{leb-true, ltb-true, lt-ltb, le-ltb, ne-eqb}
 use Rattle.model.proofs.Parts.{lt-or-ge}
 use Rattle.model.specs.Text.{leading, isPlain, numberFrom, Figure, figure}
+use Rattle.model.proofs.Tests.{both-true}
 use Rattle.figures.specs.Places.{figureAt}
-
--- ---- a figure, or none, at the place i of a line
-both : (a b : Bool) → (a && b) ≡ true → (a ≡ true) × (b ≡ true)
-both true b e = (refl, e)
-both false b e = absurd (false≢true e)
 
 module _ (line : List ℕ) (i : ℕ) where
   pub figure-here : figureAt line i ≡ true → (i < length line) × (48 ≤ getD line i 0) × (getD line i 0 ≤ 57)
   unfolding figureAt
   figure-here e =
-      let w = both _ _ e in
+      let w = both-true _ _ e in
       let low : 48 ≤ getD line i 0 = leb-true _ _ (w .0) in
       (⊎-elim (λ (l : i < length line). l) (λ (g : length line ≤ i). omega (arith, List·getD-eq-default line 0 g)) (lt-or-ge i (length line)), low, leb-true _ _ (w .1))
 

@@ -1,3 +1,2 @@
-pub mod Flushing
 pub mod Moving
 pub mod Preparing

@@ -146,6 +146,14 @@ pub fn partition_of(g: Geometry, key: u64) -> u32
     ((key >> 1) >> (63 - g.parts)) as u32
 }
 
+// Where the key's partition begins in memory.
+pub fn key_partition_at(g: Geometry, key: u64) -> usize
+    requires { ⌜ allowed g ≡ true ⌝ }
+    ensures { λ r. ⌜ r ≡ partitionAt g (partitionOf g key) ⌝ }
+{
+    partition_at(g, partition_of(g, key))
+}
+
 // The key's low 16 bits, modulo a power of two.
 pub fn page_of(g: Geometry, key: u64) -> u32
     requires { ⌜ allowed g ≡ true ⌝ }

@@ -1,7 +1,7 @@
 -- A line that says a call has at most 138 bytes: its texts are fixed, and a number below its limit has at most so many figures.
 use Prim.Native.Nat.{ℕ, suc, _+_, _-_, _*_, _^_, _≤_, _<_}
 use Prim.Native.String.{String}
-use mathlib.Core.Bool.{Bool, true, false, cond, _&&_, false≢true}
+use mathlib.Core.Bool.{Bool, true, false, cond, _&&_}
 use mathlib.Core.Logic.{⊎-elim}
 use mathlib.Core.List.{List, [], _∷_}
 use mathlib.Core.Option.{Option, none, some, Option·some-injective}
@@ -16,16 +16,13 @@ use Rattle.model.specs.Geometry.{between}
 use Rattle.model.specs.Text.{text, past, leading, isPlain, numberFrom, Figure, figure}
 use Rattle.model.specs.Calls.{Call}
 use Rattle.model.specs.Session.{then, orElse, numberPast, atEnd, ending, wide, narrow, putLine, getLine, delLine, flushLine, formatLine, callOf}
+use Rattle.model.proofs.Tests.{both-true}
 
 -- ---- figures behind a number n of more than j figures
 more-figures : (ds : List ℕ) (n j k : ℕ) → 10 ^ j ≤ n → numberFrom n ds < 10 ^ k → length ds + j < k
 unfolding numberFrom
 more-figures [] n j k l h = ⊎-elim (λ (less : j < k). omega arith) (λ (g : k ≤ j). absurd (omega (arith, pow-le-pow-right {n = 10} (omega arith) g))) (lt-or-ge j k)
 more-figures (d ∷ ds) n j k l h = omega (arith, more-figures ds (10 * n + (d - 48)) (suc j) k (rw (pow-suc 10 j) (omega arith)) h)
-
-both : (a b : Bool) → (a && b) ≡ true → (a ≡ true) × (b ≡ true)
-both true b e = (refl, e)
-both false b e = absurd (false≢true e)
 
 -- a number below 10^k without a leading zero has at most k figures
 most-figures : (xs : List ℕ) (k : ℕ) → 0 < k → isPlain (leading xs) ≡ true → numberFrom 0 (leading xs) < 10 ^ k → length (leading xs) ≤ k
@@ -36,7 +33,7 @@ most-figures (x ∷ xs) k p e h = go (between 48 57 x) refl e h
     opened : (ds : List ℕ) → between 48 57 x ≡ true → isPlain (x ∷ ds) ≡ true → numberFrom 0 (x ∷ ds) < 10 ^ k → length (x ∷ ds) ≤ k
     opened [] f e h = omega arith
     opened (d ∷ ds) f e h =
-        let low : 48 ≤ x = leb-true 48 x (both _ _ f .0) in
+        let low : 48 ≤ x = leb-true 48 x (both-true _ _ f .0) in
         let other = eqb-false x 48 (not-true _ e) in
         omega (arith, more-figures (d ∷ ds) (10 * 0 + (x - 48)) 0 k (omega arith) h)
 

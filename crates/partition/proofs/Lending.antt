@@ -47,8 +47,8 @@ module _ (g : Geometry) (m : List ℕ) (fine : allowed g ≡ true) (long : memor
   pub key-whole : (k : ℕ) → k < 2 ^ 64 → Whole g (partition g (partitionOf g k) m)
   key-whole k l = partition-whole (partitionOf g k) (partition-of-lt g fine k l)
 
-  pub lends-key : (k : ℕ) → k < 2 ^ 64 → (t a n : ℕ) → t ≡ partitionOf g k → a ≡ partitionAt g t → n ≡ stride g → Lent g (partitionOf g k) m a n
-  lends-key k l t a n et ea en = lends (partitionOf g k) (partition-of-lt g fine k l) a n (rw et at ea) en
+  pub lends-key : (k : ℕ) → k < 2 ^ 64 → (a n : ℕ) → a ≡ partitionAt g (partitionOf g k) → n ≡ stride g → Lent g (partitionOf g k) m a n
+  lends-key k l = lends (partitionOf g k) (partition-of-lt g fine k l)
 
 -- a partition's head is read from bytes of memory
 pub partition-words : (g : Geometry) (t : ℕ) (m : List ℕ) → ((i : ℕ) → getD m i 0 < 256) → HeadWords (headOf (partition g t m))

@@ -1,9 +1,10 @@
 // The buffer pages, as parts of the partition.
-ghost use mathlib.Core.Bool.{false};
+ghost use mathlib.Core.Bool.{true, false};
 ghost use mathlib.Core.Path.{_≡_};
 ghost use Prim.Native.Nat.{_+_, _*_, _≤_, _<_};
 ghost use Rattle.model.specs.Bytes.{within};
-ghost use Rattle.model.specs.Geometry.{partitions, capacity, bufferAt};
+ghost use Rattle.model.specs.Geometry.{allowed, partitions, capacity, bufferAt};
+ghost use Rattle.model.specs.Keys.{pageOf};
 ghost use Rattle.model.specs.Page.{countOf, valueAt, searched, emptied};
 ghost use Rattle.model.specs.Partition.{bufferOf};
 ghost use Rattle.model.specs.Refusals.{pageOverfull, keyOverfull, somePageOverfull};
@@ -84,13 +85,21 @@ pub fn value(part: &[u8], g: Geometry, q: u32, i: usize) -> u64
     words::u64_at(part, geometry::buffer_at(g, q) + 16 * i + 8)
 }
 
+// Where the key's page begins.
+fn page_at(g: Geometry, key: u64) -> usize
+    requires { ⌜ allowed g ≡ true ⌝ }
+    ensures { λ r. ⌜ r ≡ bufferAt g (pageOf g key) ⌝ }
+{
+    geometry::buffer_at(g, geometry::page_of(g, key))
+}
+
 // The key has the value in its page.
 pub fn store(part: &mut [u8], g: Geometry, key: u64, value: u64)
     requires { ⌜ Whole g (now part) ⌝ }
     requires { ⌜ Storable g key (now part) ⌝ }
     ensures { λ _. ⌜ now (part .exit) ≡ buffered g key value (now (part .entry)) ⌝ }
 {
-    let a = geometry::buffer_at(g, geometry::page_of(g, key));
+    let a = page_at(g, key);
     let e = a + g.page as usize;
     page::store(&mut part[a..e], key, value);
 }
@@ -101,7 +110,7 @@ pub fn drop_key(part: &mut [u8], g: Geometry, key: u64)
     requires { ⌜ keyOverfull g key (now part) ≡ false ⌝ }
     ensures { λ _. ⌜ now (part .exit) ≡ unbuffered g key (now (part .entry)) ⌝ }
 {
-    let a = geometry::buffer_at(g, geometry::page_of(g, key));
+    let a = page_at(g, key);
     let e = a + g.page as usize;
     page::drop_key(&mut part[a..e], key);
 }

@@ -34,7 +34,8 @@ use Rattle.partition.proofs.Lending.{partition-inside, key-whole, partition-wor
 use Rattle.put.specs.declared.Plan.{Plan}
 use Rattle.put.specs.declared.Plan.the-variants.{Refused, Store, Flush}
 use Rattle.put.specs.Plans.{planFor}
-use Rattle.put.proofs.Planning.{Means, plan-means, storable, flushable}
+use Rattle.put.proofs.Planning as planning
+use Rattle.put.proofs.Planning.{Means, plan-means, storable}
 
 -- ---- behind a flush
 module _ (g : Geometry) (p : List ℕ) where
@@ -96,9 +97,7 @@ module _ (g : Geometry) (m f : List ℕ) (table : IsTable g m f) (k : ℕ) where
 
     module _ (bytes : (i : ℕ) → getD m i 0 < 256) (h : planFor g k own ≡ Flush) where
       pub can-flush : Flushable g t own
-      can-flush =
-          let w = meant Flush h in
-          flushable g k own (w .0) t below (omega (arith, partition-words g t m bytes .flushes)) (w .1)
+      can-flush = let w = meant Flush h in planning.can-flush g k own (w .0) t below (partition-words g t m bytes) (w .1)
 
       pub can-store-behind : (m₁ : List ℕ) → m₁ ≡ within at (stride g) (flushed g t) m → Storable g k (partition g t m₁)
       can-store-behind m₁ e =

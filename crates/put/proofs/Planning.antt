@@ -1,5 +1,5 @@
 -- Which plan each outcome of the tests gives, what a plan means for the call, and what an accepted put can do.
-use Prim.Native.Nat.{ℕ, _<_, _≤_}
+use Prim.Native.Nat.{ℕ, _<_}
 use mathlib.Core.Bool.{Bool, true, false}
 use mathlib.Core.List.{List}
 use mathlib.Core.Option.{Option, none, some}
@@ -10,12 +10,14 @@ use Rattle.model.specs.declared.Geometry.{Geometry}
 use Rattle.model.specs.Geometry.{capacity, partitions}
 use Rattle.model.specs.Keys.{pageOf}
 use Rattle.model.specs.Page.{countOf}
-use Rattle.model.specs.Partition.{flushesOf, bufferOf}
+use Rattle.model.specs.Partition.{headOf, flushesOf, bufferOf}
 use Rattle.model.specs.Answers.{Refusal, unread}
 use Rattle.model.specs.Refusals.{keyOverfull, somePageOverfull, lastFlush}
 use Rattle.model.specs.Put.{due, putChecks}
 use Rattle.model.proofs.Checks.{key-fits, put-12, put-undue, put-12-due, put-last, put-accepted}
+use Rattle.model.proofs.Heads.{HeadWords}
 use Rattle.partition.specs.Ready.{Storable, Flushable}
+use Rattle.partition.proofs.Flushing.{flushable}
 use Rattle.answers.specs.Told.{asRefusal, ofRefusal}
 use Rattle.put.specs.declared.Plan.{Plan}
 use Rattle.put.specs.declared.Plan.the-variants.{Refused, Store, Flush}
@@ -72,8 +74,5 @@ module _ (g : Geometry) (k : ℕ) (p : List ℕ) where
           room = λ n. let free = eqb-false (countOf (bufferOf g p (pageOf g k))) (capacity g) (simp n at d) in omega (arith, key-fits g p k (w .0) .1);
         }
 
-    pub flushable : (t : ℕ) → t < partitions g → flushesOf p ≤ lastFlush → due g k p ≡ true → Flushable g t p
-    flushable t below small d =
-        let w = put-accepted g k p h in
-        let other = eqb-false (flushesOf p) lastFlush (rw d at (w .2)) in
-        record { below = below; head = key-fits g p k (w .0) .0; pages = rw d at (w .1); number = omega arith }
+    pub can-flush : (t : ℕ) → t < partitions g → HeadWords (headOf p) → due g k p ≡ true → Flushable g t p
+    can-flush t below words d = let w = put-accepted g k p h in flushable g t p words below (key-fits g p k (w .0) .0) (rw d at (w .1)) (rw d at (w .2))

@@ -5,25 +5,21 @@ use borrow.Author.Needs.{needs}
 use Rattle.model.specs.Keys.{partitionOf}
 use Rattle.model.specs.Del.{unbuffered, listedWith}
 use Rattle.model.proofs.Lengths.{length-unbuffered, length-listedWith}
-use Rattle.model.proofs.Sizes.{partition-of-lt}
 use Rattle.partition.proofs.Lending.{Lent, lends-key}
 use Rattle.del.specs.Plans.{stamp}
 use Rattle.del.proofs.apply_at.Statement.{statement}
 use Rattle.del.proofs.apply_at.Tie as tie
 
-lent : (c : tie.After-partition-size) → let a = c .before .before .before .before .args in Lent (a .g) (partitionOf (a .g) (a .key)) (a .memory .now) (c .before .partition-at .result) (c .partition-size .result)
-lent c = let s = c .before .before .before .before in lends-key _ _ (s .pre .0) (s .pre .1 .0) (s .args .key) (omega arith) _ _ _ (c .before .before .partition-of .ensures) (c .before .partition-at .ensures) (c .partition-size .ensures)
-
-partition-at-requires : tie.Need-partition-at-requires
-partition-at-requires c κs = let s = c .before .before in (s .pre .0, omega (arith, c .partition-of .ensures, partition-of-lt _ (s .pre .0) (s .args .key) (omega arith)))
+lent : (c : tie.After-partition-size) → let a = c .before .before .before .args in Lent (a .g) (partitionOf (a .g) (a .key)) (a .memory .now) (c .before .key-partition-at .result) (c .partition-size .result)
+lent c = let s = c .before .before .before in lends-key _ _ (s .pre .0) (s .pre .1 .0) (s .args .key) (omega arith) _ _ (c .before .key-partition-at .ensures) (c .partition-size .ensures)
 
 apply-requires : tie.Need-apply-requires
-apply-requires c κs = let l = lent (c .before) in (l .whole, rw (l .own) (c .before .before .before .before .before .pre .1 .1))
+apply-requires c κs = let l = lent (c .before) in (l .whole, rw (l .own) (c .before .before .before .before .pre .1 .1))
 
 returns : tie.Need-returns
 returns c =
-    let a = c .before .before .before .before .before .before .before .before .args in
+    let a = c .before .before .before .before .before .before .before .args in
     lent (c .before .before .before .before) .back (λ p. listedWith (stamp (a .youngest)) (a .g) (a .key) (unbuffered (a .g) (a .key) p)) (λ p. length-listedWith (stamp (a .youngest)) (a .g) (a .key) (unbuffered (a .g) (a .key) p) ∙ length-unbuffered (a .g) (a .key) p) _ (c .before .before .apply .ensures)
 
 pub apply-at-spec : {M : Type 1} → statement M
-apply-at-spec = tie.close (tie.spec (λ c κs. search needs) partition-at-requires (λ c κs. search needs) (λ c. omega (arith, lent c .inside)) (λ c. search needs) (λ c. search needs) (λ c. omega (arith, lent c .inside)) apply-requires (λ c. search needs) returns)
+apply-at-spec = tie.close (tie.spec (λ c κs. search needs) (λ c κs. search needs) (λ c. omega (arith, lent c .inside)) (λ c. search needs) (λ c. search needs) (λ c. omega (arith, lent c .inside)) apply-requires (λ c. search needs) returns)

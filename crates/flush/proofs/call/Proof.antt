@@ -7,13 +7,13 @@ use borrow.Author.Needs.{needs}
 use Rattle.model.specs.Geometry.{partitions}
 use Rattle.model.specs.Partition.{partition}
 use Rattle.model.specs.Flush.{flushChecks}
-use Rattle.model.proofs.Checks.{flush-4}
+use Rattle.model.proofs.Checks.{flush-4, flush-accepted}
 use Rattle.model.proofs.Calls.{checks-flush, result-flush, effect-flush}
 use Rattle.answers.specs.Told.{verdict}
 use Rattle.answers.specs.Performs.{areas}
 use Rattle.answers.proofs.Performing.{refusing, doing}
-use Rattle.partition.proofs.Lending.{partition-whole}
-use Rattle.flush.proofs.Flushing.{flushable}
+use Rattle.partition.proofs.Lending.{partition-whole, partition-words}
+use Rattle.partition.proofs.Flushing.{flushable}
 use Rattle.flush.proofs.call.Statement.{statement}
 use Rattle.flush.proofs.call.Tie as tie
 
@@ -46,7 +46,9 @@ accepted c = decided (c .before .before) ∙ ap verdict (c .enum-told .given .1)
 apply-at-requires : tie.Need-apply-at-requires
 apply-at-requires c κs =
     let s = start (counted (c .before .before .before .before)) in
-    (s .pre .fine, (s .pre .memoryFits, (flushable _ _ _ (λ i. omega (arith, counted (c .before .before .before .before) .before .before .slice-known .given i)) (accepted (c .before .before)), s .pre .flashFits)))
+    let w = flush-accepted _ _ _ (accepted (c .before .before)) in
+    let words = partition-words (s .args .g) (s .args .t) (s .args .memory .now) (λ i. omega (arith, counted (c .before .before .before .before) .before .before .slice-known .given i)) in
+    (s .pre .fine, (s .pre .memoryFits, (flushable _ _ _ words (w .0) (w .1) (w .2) (w .4), s .pre .flashFits)))
 
 returns-2 : tie.Need-returns-2
 returns-2 c =

@@ -4,6 +4,7 @@ use mathlib.Core.Path.{_≡_, sym, _∙_}
 use mathlib.Core.List.{List}
 use mathlib.Core.Option.{Option}
 use lib.ListN.{drop}
+use Rattle.model.specs.Geometry.{geometry}
 use Rattle.model.specs.Text.{text}
 use Rattle.model.specs.Calls.{Call, format}
 use Rattle.model.specs.Session.{then, narrow, numberPast, ending, formatLine}
@@ -19,15 +20,7 @@ abbrev after-six : ThreeFigures → ThreeFigures → Option Call
 after-six a b =
     then (numberPast ") (list " narrow (b .rest)) (λ d.
     ending "))" (d .rest)
-    (format (record {
-      parts = a .first;
-      page = a .second;
-      pages = a .third;
-      kept = b .first;
-      bits = b .second;
-      hashes = b .third;
-      list = d .value;
-    })))
+    (format (geometry (a .first) (a .second) (a .third) (b .first) (b .second) (b .third) (d .value))))
 
 abbrev after-three : ThreeFigures → Option Call
 after-three a = threePast (text ") (kept ") (text ") (bits ") (text ") (hashes ") (a .rest) (after-six a)
