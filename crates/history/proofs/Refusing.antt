@@ -22,7 +22,7 @@ use Rattle.model.specs.Calls.{Call, format, put, get, del, flush, view, checks,
 use Rattle.model.proofs.Tests.{either, both-true}
 use Rattle.model.proofs.Tables.{any}
 use Rattle.model.proofs.Checks.{refuse-none, format-1, format-2, format-3, format-passes}
-use Rattle.model.proofs.Calls.{checks-format, result-format, result-put, result-del, result-flush, result-view, reply-refused, reply-accepted}
+use Rattle.model.proofs.Calls.{checks-format, result-format, result-put, result-del, result-flush, result-view, reply-refused, reply-accepted, viewed-page}
 use Rattle.history.specs.History.{History}
 use Rattle.history.specs.Claim.{Fits, said}
 use Rattle.history.proofs.Table.{Part, due, mustList}
@@ -88,13 +88,12 @@ module _ (a : Areas) (h : History) (inv : InStep a h) where
   -- a page of a live batch is as it must be
   page-shown : (t q n : ℕ) → t < partitions g → q < g .pages → not (eqb n 0) && not (isLive g (headOf (partition g t (a .memory))) n) ≡ false
       → Among (4 ∷ 17 ∷ []) (viewed g t q n (a .flash))
-  unfolding viewed
   page-shown t q n lt lq e = either (eqb n 0)
-      (λ z. rw z tt)
+      (λ z. rw (viewed-page, z) tt)
       (λ z.
       let at = inv .shows .part t lt in
       let page = at .batch n (live-by-table at n (not-false _ (simp z at e))) q lq in
-      rw (z, page-expected (page .page) n (page .flush)) tt)
+      rw (viewed-page, z, page-expected (page .page) n (page .flush)) tt)
 
   abbrev p : ℕ → List ℕ
   p t = partition g t (a .memory)

@@ -21,7 +21,7 @@ use Rattle.model.specs.Flush.{flushChecks, flushed, withBatch}
 use Rattle.model.specs.Put.{due, putChecks, putIn}
 use Rattle.model.specs.Get.{getChecks, sought}
 use Rattle.model.specs.Del.{delChecks, deleted}
-use Rattle.model.specs.View.{viewChecks, viewed}
+use Rattle.model.specs.View.{viewChecks, pageShown, viewed}
 use Rattle.model.specs.Calls.{Call, format, put, get, del, flush, view, geometryIn, checks, result, reply, effect, unlessRefused, after}
 use Rattle.model.proofs.Tests.{neither}
 use Rattle.model.proofs.Checks.{refuse-none}
@@ -195,6 +195,11 @@ effect-get a k = refl
 pub effect-view : (a : Areas) (t q n : ℕ) → effect a (view t q n) ≡ a
 unfolding effect
 effect-view a t q n = refl
+
+-- a view of the buffer, or of a batch
+pub viewed-page : (g : Geometry) (t q n : ℕ) (f : List ℕ) → viewed g t q n f ≡ pageShown (eqb n 0) g t q n f
+unfolding viewed
+viewed-page g t q n f = refl
 
 -- ---- refused, or not
 pub unless-same : (x : Answer) (a : Areas) → unlessRefused x a a ≡ a

@@ -7,12 +7,12 @@ use mathlib.Core.Option.{Option, none, some}
 use native.Mathlib.Omega.{arith}
 use lib.Dec.{eqb, ltb}
 use lib.ListN.{length}
-use borrow.Author.Tests.{ltb-true, ltb-false, lt-ltb, le-ltb, eq-eqb, not-false}
+use borrow.Author.Tests.{ltb-true, ltb-false, lt-ltb, le-ltb, eqb-false, eq-eqb, ne-eqb, not-false}
 use Rattle.model.specs.declared.Geometry.{Geometry}
 use Rattle.model.specs.Search.{firstFrom, isSome, anyFrom}
 use Rattle.model.specs.Geometry.{allowed, partitions, capacity, memoryNeed, flashNeed}
 use Rattle.model.specs.Keys.{pageOf}
-use Rattle.model.specs.Page.{countOf}
+use Rattle.model.specs.Page.{countOf, searched}
 use Rattle.model.specs.Partition.{headOf, flushesOf, listedOf, bufferOf, isLive}
 use Rattle.model.specs.Answers.{Areas, Refusal, unread}
 use Rattle.model.specs.Refusals.{refuseIf, headOverfull, pageOverfull, keyOverfull, somePageOverfull, lastFlush}
@@ -94,8 +94,28 @@ module _ (g : Geometry) (a : Areas) where
       let three = refuse-none (ltb (length (a .flash)) (flashNeed g)) 3 none (two .1) in
       (not-false (allowed g) (one .0), ltb-false _ _ (two .0), ltb-false _ _ (three .0))
 
--- ---- put: 12, 16
+-- ---- put: when a flush is due; 12, 16
 module _ (g : Geometry) (k : ℕ) (p : List ℕ) where
+  abbrev page : List ℕ
+  page = bufferOf g p (pageOf g k)
+
+  pub due-kept : (i : ℕ) → searched k page ≡ some i → due g k p ≡ false
+  unfolding due
+  due-kept i e = rw e
+
+  pub due-room : (countOf page ≡ capacity g → ⊥) → due g k p ≡ false
+  unfolding due
+  due-room h = rw (ne-eqb _ _ h, and-false)
+
+  pub due-full : searched k page ≡ none → countOf page ≡ capacity g → due g k p ≡ true
+  unfolding due
+  due-full e full = rw (e, eq-eqb _ _ full)
+
+  -- a new key finds room where none is
+  pub undue-room : due g k p ≡ false → searched k page ≡ none → countOf page ≡ capacity g → ⊥
+  unfolding due
+  undue-room h e = eqb-false (countOf page) (capacity g) (rw e at h)
+
   pub put-12 : keyOverfull g k p ≡ true → putChecks g k p ≡ some (unread 12)
   unfolding putChecks
   put-12 e = rw e

@@ -21,5 +21,6 @@ pub mod PartitionsFormat
 pub mod PartitionsCalls
 pub mod Checks
 pub mod Calls
+pub mod Sessions
 pub mod Computing
 pub mod Faults

@@ -16,7 +16,7 @@ use Rattle.model.specs.Partition.{slot}
 use Rattle.model.specs.Get.{batchPage}
 use Rattle.model.specs.View as view
 use Rattle.model.specs.Calls.{Call, checks, result, reply}
-use Rattle.model.proofs.Calls.{result-view, reply-refused, reply-accepted}
+use Rattle.model.proofs.Calls.{viewed-page, result-view, reply-refused, reply-accepted}
 use Rattle.model.proofs.Words.{word-lt}
 use Rattle.answers.specs.declared.Viewed.{Viewed}
 use Rattle.answers.specs.Told.{viewed}
@@ -64,7 +64,6 @@ unfolding geometryOf
 page-small m bytes = omega (arith, word-lt 4 m 4 bytes)
 
 pub size-fits : (m f : List ℕ) (t q n : ℕ) (r : Viewed) → ((i : ℕ) → getD m i 0 < 256) → viewed r ≡ reply (areas m f) (Call.view t q n) → SizeFits r
-unfolding view.viewed
 size-fits m f t q n r bytes e =
     let s = page-fits (geometryOf m) (page-small m bytes) t q n f (eqb n 0) in
-    told-fits r (rw e (reply-fits (areas m f) (Call.view t q n) (rw (result-view (areas m f) (geometryOf m) refl t q n) s)))
+    told-fits r (rw e (reply-fits (areas m f) (Call.view t q n) (rw (result-view (areas m f) (geometryOf m) refl t q n, viewed-page (geometryOf m) t q n f) s)))

@@ -1,13 +1,14 @@
 -- A piece of input is run in turns, each over what the one before it left; and a last line is run alone.
 use Prim.Native.Nat.{ℕ, _+_, _-_, _≤_, _<_}
 use mathlib.Core.List.{List, [], _∷_, _++_}
-use mathlib.Core.Path.{_≡_, refl, sym, _∙_, ap}
+use mathlib.Core.Path.{_≡_, sym, _∙_, ap}
 use native.Mathlib.Omega.{arith}
 use lib.ListN.{length, take, drop, getD, length-drop}
 use lib.Seq.{take-all, take-add, getD-drop}
 use Rattle.model.specs.Bytes.{mid}
 use Rattle.model.specs.Answers.{Areas}
-use Rattle.model.specs.Session.{lineLeaves, linesOf, linesPrint, linesLeave}
+use Rattle.model.specs.Session.{lineLeaves, linesOf, linesLeave}
+use Rattle.model.proofs.Sessions.{print-none, leave-none, leave-one}
 use Rattle.lines.specs.Lines.{Unended}
 use Rattle.applying.specs.Applies.{room}
 use Rattle.session.specs.Promises.{Ran, Takes}
@@ -16,8 +17,7 @@ use Rattle.session.proofs.Pieces.{leave-pieces}
 use Rattle.pieces.specs.Pieces.{Went}
 
 pub went-none : (xs : List ℕ) (a : Areas) → Went 0 xs a a
-unfolding linesLeave linesOf
-went-none xs a = record { within = omega arith; whole = whole-none; leaves = refl }
+went-none xs a = record { within = omega arith; whole = whole-none; leaves = sym (leave-none a) }
 
 module _ (xs : List ℕ) (taken : ℕ) (inside : taken ≤ length xs) where
   abbrev rest : List ℕ
@@ -45,9 +45,8 @@ module _ (xs : List ℕ) (taken : ℕ) (inside : taken ≤ length xs) where
 
     -- a turn that takes nothing, though there is room, finds no end of a line
     pub went-all : {a₁ a₂ : Areas} {o′ : List ℕ} → r ≡ 0 → room ≤ length o → Ran (take r rest) a₁ o n o′ a₂ → Unended taken xs
-    unfolding linesPrint linesOf
-    went-all z l s i g k e =
-        let none : n ≡ 0 = (rw z at (s .prints .ends)) in
+    went-all {a₁ = a₁} z l s i g k e =
+        let none : n ≡ 0 = (rw (z, print-none a₁) at (s .prints .ends)) in
         let u : Unended 0 rest = rw z at (t .all (omega arith)) in
         (rw rest-drop at u) (i - taken) (omega arith) (rw length-drop (omega arith)) (getD-drop taken xs (i - taken) 0 ∙ ap (λ (j : ℕ). getD xs j 0) (omega arith) ∙ e)
 
@@ -56,10 +55,8 @@ unended-end xs n l i g k = absurd (omega arith)
 
 -- ---- the last line
 pub leaves-none : (line : List ℕ) (a : Areas) → length line ≡ 0 → a ≡ linesLeave (linesOf line) a
-unfolding linesLeave linesOf
-leaves-none [] a e = refl
+leaves-none [] a e = sym (leave-none a)
 leaves-none (x ∷ xs) a e = absurd (omega arith)
 
 pub leaves-last : (line : List ℕ) (a a′ : Areas) → Unended 0 line → 0 < length line → a′ ≡ lineLeaves line a → a′ ≡ linesLeave (linesOf line) a
-unfolding linesLeave
-leaves-last line a a′ h l e = rw (lines-last line l h) e
+leaves-last line a a′ h l e = rw (lines-last line l h, leave-one line a) e

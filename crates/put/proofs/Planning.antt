@@ -5,16 +5,14 @@ use mathlib.Core.List.{List}
 use mathlib.Core.Option.{Option, none, some}
 use mathlib.Core.Path.{_≡_, refl}
 use native.Mathlib.Omega.{arith}
-use borrow.Author.Tests.{eq-eqb, ne-eqb, eqb-false}
+use borrow.Author.Tests.{eq-eqb, ne-eqb}
 use Rattle.model.specs.declared.Geometry.{Geometry}
-use Rattle.model.specs.Geometry.{capacity, partitions}
-use Rattle.model.specs.Keys.{pageOf}
-use Rattle.model.specs.Page.{countOf}
-use Rattle.model.specs.Partition.{headOf, flushesOf, bufferOf}
+use Rattle.model.specs.Geometry.{partitions}
+use Rattle.model.specs.Partition.{headOf, flushesOf}
 use Rattle.model.specs.Answers.{Refusal, unread}
 use Rattle.model.specs.Refusals.{keyOverfull, somePageOverfull, lastFlush}
 use Rattle.model.specs.Put.{due, putChecks}
-use Rattle.model.proofs.Checks.{key-fits, put-12, put-undue, put-12-due, put-last, put-accepted}
+use Rattle.model.proofs.Checks.{key-fits, undue-room, put-12, put-undue, put-12-due, put-last, put-accepted}
 use Rattle.model.proofs.Heads.{HeadWords}
 use Rattle.partition.specs.Ready.{Storable, Flushable}
 use Rattle.partition.proofs.Flushing.{flushable}
@@ -66,12 +64,11 @@ module _ (g : Geometry) (k : ℕ) (p : List ℕ) where
   -- ---- an accepted put that flushes nothing finds room, and one that flushes can be flushed
   module _ (h : putChecks g k p ≡ none) where
     pub storable : due g k p ≡ false → Storable g k p
-    unfolding due
     storable d =
         let w = put-accepted g k p h in
         record {
           fits = w .0;
-          room = λ n. let free = eqb-false (countOf (bufferOf g p (pageOf g k))) (capacity g) (simp n at d) in omega (arith, key-fits g p k (w .0) .1);
+          room = λ new. let free = undue-room g k p d new in omega (arith, key-fits g p k (w .0) .1);
         }
 
     pub can-flush : (t : ℕ) → t < partitions g → HeadWords (headOf p) → due g k p ≡ true → Flushable g t p

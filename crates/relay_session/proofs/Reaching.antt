@@ -7,6 +7,7 @@ use lib.ListN.{length, take, drop, take-append-drop, length-take}
 use lib.Seq.{take-take}
 use Rattle.model.specs.Answers.{Areas}
 use Rattle.model.specs.Session.{linesOf, linesLeave}
+use Rattle.model.proofs.Sessions.{leave-none}
 use Rattle.lines.specs.Lines.{Whole, longest}
 use Rattle.lines.proofs.Lines.{whole-none, whole-more}
 use Rattle.session.proofs.Pieces.{leave-pieces}
@@ -28,8 +29,7 @@ pub record Reached (rest : Rest) (input : List ℕ) (a a′ : Areas) : Type 0 wh
   pub carries : (more : List ℕ) → linesLeave (linesOf (heldBytes rest input ++ more)) a′ ≡ linesLeave (linesOf (text ++ more)) a
 
 pub reached-none : (xs : List ℕ) (a : Areas) → Reached (record { at = 0; end = 0 }) xs a a
-unfolding linesLeave linesOf
-reached-none xs a = record { lines = []; whole = whole-none; leaves = refl; text = []; carries = λ more. refl }
+reached-none xs a = record { lines = []; whole = whole-none; leaves = sym (leave-none a); text = []; carries = λ more. refl }
 
 -- the lines that were run come first
 goes-on : {at : ℕ} {xs : List ℕ} {a a′ : Areas} → Went at xs a a′ → (more : List ℕ) → linesLeave (linesOf (drop at xs ++ more)) a′ ≡ linesLeave (linesOf (xs ++ more)) a

@@ -1,6 +1,6 @@
 -- A run goes on by one line: it took whole lines, and takes the next with the byte 10 that ends it.
 use Prim.Native.Nat.{ℕ, _+_, _-_, _≤_, _<_}
-use mathlib.Core.List.{List, [], _∷_, _++_, append-assoc, append-nil}
+use mathlib.Core.List.{List, [], _∷_, _++_, append-assoc}
 use mathlib.Core.Path.{_≡_, refl, sym, _∙_, ap}
 use native.Mathlib.Numerals.{add-one}
 use native.Mathlib.Omega.{arith}
@@ -10,6 +10,7 @@ use Rattle.model.specs.Bytes.{mid}
 use Rattle.model.specs.Answers.{Areas}
 use Rattle.model.specs.Session.{linePrints, lineLeaves, linesOf, linesPrint, linesLeave}
 use Rattle.model.proofs.Parts.{getD-mid, length-mid}
+use Rattle.model.proofs.Sessions.{lines-none, print-none, leave-none, print-one, leave-one}
 use Rattle.printer.proofs.Printing.{puts-append}
 use Rattle.lines.specs.Lines.{Unended, LineEnd, Whole}
 use Rattle.applying.specs.Applies.{Applies}
@@ -18,8 +19,7 @@ use Rattle.lines.proofs.Lines.{lines-line, whole-line, whole-more}
 use Rattle.session.proofs.Pieces.{leave-pieces, print-pieces}
 
 pub ran-none : (a : Areas) (o : List ℕ) → Ran [] a o 0 o a
-unfolding linesOf linesPrint linesLeave
-ran-none a o = record { fits = omega arith; prints = record { ends = refl; holds = refl }; leaves = refl }
+ran-none a o = record { fits = omega arith; prints = rw (print-none a) (record { ends = refl; holds = refl }); leaves = sym (leave-none a) }
 
 -- ---- a line and the byte that ends it
 abbrev ended : List ℕ → List ℕ
@@ -27,12 +27,10 @@ ended line = line ++ 10 ∷ []
 
 module _ (line : List ℕ) (h : Unended 0 line) (a : Areas) where
   prints-line : linesPrint (linesOf (ended line)) a ≡ linePrints line a
-  unfolding linesPrint linesOf
-  prints-line = rw (lines-line line [] h, append-nil)
+  prints-line = rw (lines-line line [] h, lines-none) (print-one line a)
 
   leaves-line : linesLeave (linesOf (ended line)) a ≡ lineLeaves line a
-  unfolding linesLeave linesOf
-  leaves-line = rw (lines-line line [] h)
+  leaves-line = rw (lines-line line [] h, lines-none) (leave-one line a)
 
 -- ---- the line that begins at `from`, and ends before the text does
 module _ (xs : List ℕ) (from end : ℕ) (e : LineEnd xs from end) (l : end < length xs) where

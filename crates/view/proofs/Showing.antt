@@ -14,6 +14,7 @@ use Rattle.model.specs.Answers.{Answer, done, found, absent, shown, refused, in
 use Rattle.model.specs.Get.{batchPage}
 use Rattle.model.specs.View.{pageShown, viewed}
 use Rattle.model.proofs.Sizes.{partition-fits, buffer-fits, slot-lt, slot-page-fits}
+use Rattle.model.proofs.Calls.{viewed-page}
 use Rattle.answers.specs.declared.Viewed.{Viewed}
 use Rattle.answers.specs.Told as told
 use Rattle.answers.specs.Performs.{Inside}
@@ -43,5 +44,4 @@ module _ (g : Geometry) (t q n : ℕ) (m f : List ℕ) (ok : allowed g ≡ true)
 
   -- a page that is shown lies within its area
   pub shown-inside : (r : Viewed) → told.viewed r ≡ viewed g t q n f → Inside r m f
-  unfolding viewed
-  shown-inside r e = told-inside r m f (rw e (page-shown (eqb n 0)))
+  shown-inside r e = told-inside r m f (rw (e, viewed-page g t q n f) (page-shown (eqb n 0)))

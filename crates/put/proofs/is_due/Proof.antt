@@ -1,14 +1,11 @@
 -- The count of the key's page and its search are the two halves of the definition.
 use mathlib.Core.Path.{_≡_, sym, _∙_}
-use mathlib.Core.Bool.{and-false}
 use borrow.Author.Needs.{needs}
-use borrow.Author.Tests.{eq-eqb, ne-eqb}
 use Rattle.model.specs.Keys.{pageOf}
 use Rattle.model.specs.Page.{countOf}
 use Rattle.model.specs.Partition.{bufferOf}
-use Rattle.model.specs.Put.{due}
 use Rattle.model.proofs.Sizes.{page-of-lt}
-use Rattle.model.proofs.Checks.{key-fits}
+use Rattle.model.proofs.Checks.{key-fits, due-kept, due-room, due-full}
 use Rattle.records.proofs.Telling.{told-at}
 use Rattle.put.proofs.is_due.Statement.{statement}
 use Rattle.put.proofs.is_due.Tie as tie
@@ -24,23 +21,15 @@ counted : (c : tie.After-count) → let a = c .before .before .before .args in c
 counted c = rw (c .before .page-of .ensures) at (c .count .ensures)
 
 returns : tie.Need-returns
-unfolding due
-returns c =
-    let d = ne-eqb _ _ (λ e. c .if1 .taken (counted (c .before .before) ∙ e ∙ sym (c .before .page-capacity .ensures))) in
-    simp (d, and-false)
+returns c = sym (due-room _ _ _ (λ e. c .if1 .taken (counted (c .before .before) ∙ e ∙ sym (c .before .page-capacity .ensures))))
 
 returns-2 : tie.Need-returns-2
-unfolding due
-returns-2 c =
-    let e = rw (c .before .before .before .before .before .before .page-of .ensures) at (told-at (c .before .before .find .ensures) (c .enum-told .given .1)) in
-    simp e
+returns-2 c = sym (due-kept _ _ _ _ (rw (c .before .before .before .before .before .before .page-of .ensures) at (told-at (c .before .before .find .ensures) (c .enum-told .given .1))))
 
 returns-3 : tie.Need-returns-3
-unfolding due
 returns-3 c =
     let e = rw (c .before .before .before .before .before .before .page-of .ensures) at (told-at (c .before .before .find .ensures) (c .enum-told2 .given .1)) in
-    let d = eq-eqb _ _ (sym (counted (c .before .before .before .before .before)) ∙ c .before .before .before .if1 .left ∙ c .before .before .before .before .page-capacity .ensures) in
-    simp (e, d)
+    sym (due-full _ _ _ e (sym (counted (c .before .before .before .before .before)) ∙ c .before .before .before .if1 .left ∙ c .before .before .before .before .page-capacity .ensures))
 
 pub is-due-spec : {M : Type 1} → statement M
 is-due-spec = tie.close (tie.spec (λ c κs. search needs) count-requires (λ c κs. search needs) returns find-requires (λ c. search needs) (λ c. search needs) returns-2 returns-3)
