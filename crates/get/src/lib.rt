@@ -111,7 +111,10 @@ pub fn call(memory: &[u8], flash: &[u8], g: Geometry, key: u64) -> Answer
 {
     let part = partition::part_of_key(memory, g, key);
     if partition::is_overfull(part, g, key) {
-        return Answer::Refused(Refusal::unread(12));
+        return Answer::Refused(Refusal {
+            number: 12,
+            reads: 0,
+        });
     }
     lookup(part, flash, g, key)
 }

@@ -36,7 +36,7 @@ pub fn get(memory: &[u8], flash: &[u8], key: u64) -> Answer
 {
     let number = opening::check(memory, flash);
     if number != 0 {
-        return Answer::Refused(Refusal::unread(number));
+        return Answer::Refused(Refusal { number, reads: 0 });
     }
     let g = opening::geometry_of(memory);
     get::call(memory, flash, g, key)

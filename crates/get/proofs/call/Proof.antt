@@ -1,14 +1,13 @@
 -- The one refusal is the checks' own, and an accepted lookup changes nothing.
-use mathlib.Core.Option.{some}
 use mathlib.Core.Path.{_≡_, sym, _∙_, ap}
 use native.Mathlib.Omega.{arith}
 use borrow.Author.Needs.{needs}
+use Rattle.model.specs.Answers.{unread}
 use Rattle.model.specs.Keys.{partitionOf}
 use Rattle.model.specs.Partition.{partition}
 use Rattle.model.specs.Refusals.{keyOverfull}
 use Rattle.model.proofs.Checks.{get-12, get-passes}
 use Rattle.model.proofs.Calls.{checks-get, result-get, effect-get}
-use Rattle.answers.specs.Told.{asRefusal}
 use Rattle.answers.proofs.Performing.{refusing, looking}
 use Rattle.partition.specs.Ready.{Whole}
 use Rattle.partition.proofs.Lending.{key-whole}
@@ -25,8 +24,8 @@ tested c = let a = c .before .before .before .before .args in sym (c .is-overful
 
 returns : tie.Need-returns
 returns c =
-    let w = c .before .before .before .before .before .before .pre in
-    refusing _ _ _ (asRefusal (c .unread .result)) (checks-get _ _ (w .own) (w .opens) _ ∙ get-12 _ _ _ (tested (c .before .before) ∙ c .before .if1 .taken) ∙ ap some (sym (c .unread .ensures)))
+    let w = c .before .before .before .before .before .pre in
+    refusing _ _ _ (unread 12) (checks-get _ _ (w .own) (w .opens) _ ∙ get-12 _ _ _ (tested (c .before) ∙ c .if1 .taken))
 
 lookup-requires : tie.Need-lookup-requires
 lookup-requires c κs = (whole (c .before .before), (sym (c .before .is-overfull .ensures) ∙ c .if1 .left, c .before .before .before .before .before .pre .flashFits))
@@ -37,4 +36,4 @@ returns-2 c =
     looking _ _ _ _ (checks-get _ _ (w .own) (w .opens) _ ∙ get-passes _ _ _ (tested (c .before .before) ∙ c .before .if1 .left)) (result-get _ _ (w .own) _ ∙ sym (rw (c .before .before .before .part-of-key .ensures) at (c .lookup .ensures))) (effect-get _ _)
 
 pub call-spec : {M : Type 1} → statement M
-call-spec = tie.close (tie.spec (λ c κs. search needs) (λ c κs. whole c) (λ c κs. search needs) returns lookup-requires returns-2)
+call-spec = tie.close (tie.spec (λ c κs. search needs) (λ c κs. whole c) returns lookup-requires returns-2)
