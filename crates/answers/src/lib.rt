@@ -1,21 +1,9 @@
 // What the calls answer. specs/Told.antt gives the paper's number and values for each case.
-ghost use mathlib.Core.Path.{_≡_};
-ghost use Rattle.model.specs.Answers.{unread};
-ghost use Rattle.answers.specs.Told.{asRefusal};
 
 // A refusal: its number, and the pages read before it.
 pub struct Refusal {
     pub number: u32,
     pub reads: u32,
-}
-
-impl Refusal {
-    // One that comes before any page is read.
-    pub fn unread(number: u32) -> Self
-        ensures { λ r. ⌜ asRefusal r ≡ unread number ⌝ }
-    {
-        Self { number, reads: 0 }
-    }
 }
 
 // Do the checks of a call stop it, and with which refusal?

@@ -65,7 +65,10 @@ fn plan_listing(part: &[u8], g: Geometry, key: u64) -> Plan
     match stamp_for(part, g, key) {
         Youngest::Batch(n) => {
             if Head::read(part).listed == g.list {
-                return Plan::Refused(Refusal::unread(14));
+                return Plan::Refused(Refusal {
+                    number: 14,
+                    reads: 0,
+                });
             }
             Plan::Remove(Youngest::Batch(n))
         }
@@ -79,7 +82,10 @@ pub fn decide(part: &[u8], g: Geometry, key: u64) -> Plan
     ensures { λ r. ⌜ r ≡ planFor g key (now (part .entry)) ⌝ }
 {
     if partition::is_overfull(part, g, key) {
-        return Plan::Refused(Refusal::unread(12));
+        return Plan::Refused(Refusal {
+            number: 12,
+            reads: 0,
+        });
     }
     match partition::list::find(part, g, key) {
         Found::At(_) => Plan::Nothing,

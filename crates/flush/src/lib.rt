@@ -28,16 +28,28 @@ pub fn decide(part: &[u8], g: Geometry, t: u32) -> Verdict
 {
     let head = Head::read(part);
     if head.is_overfull(g) {
-        return Verdict::Refused(Refusal::unread(12));
+        return Verdict::Refused(Refusal {
+            number: 12,
+            reads: 0,
+        });
     }
     if partition::buffer::is_some_page_overfull(part, g) {
-        return Verdict::Refused(Refusal::unread(12));
+        return Verdict::Refused(Refusal {
+            number: 12,
+            reads: 0,
+        });
     }
     if !partition::buffer::is_in_use(part, g) {
-        return Verdict::Refused(Refusal::unread(15));
+        return Verdict::Refused(Refusal {
+            number: 15,
+            reads: 0,
+        });
     }
     if head.flushes == 4294967295 {
-        return Verdict::Refused(Refusal::unread(16));
+        return Verdict::Refused(Refusal {
+            number: 16,
+            reads: 0,
+        });
     }
     Verdict::Accepted
 }
@@ -99,7 +111,10 @@ pub fn call(memory: &mut [u8], flash: &mut [u8], g: Geometry, t: u32) -> Written
     ensures { λ r. ⌜ Performs (Call.flush t) (now (memory .entry)) (now (flash .entry)) (told.written r) (now (memory .exit)) (now (flash .exit)) ⌝ }
 {
     if geometry::partition_count(g) <= t {
-        return Written::Refused(Refusal::unread(4));
+        return Written::Refused(Refusal {
+            number: 4,
+            reads: 0,
+        });
     }
     match decide(partition::part_of(memory, g, t), g, t) {
         Verdict::Refused(refusal) => Written::Refused(refusal),

@@ -19,13 +19,22 @@ pub fn decide(memory: &[u8], flash: &[u8], g: Geometry) -> Verdict
     ensures { λ r. ⌜ told.verdict r ≡ formatChecks g (record { memory = now (memory .entry); flash = now (flash .entry) }) ⌝ }
 {
     if !geometry::is_allowed(g) {
-        return Verdict::Refused(Refusal::unread(1));
+        return Verdict::Refused(Refusal {
+            number: 1,
+            reads: 0,
+        });
     }
     if memory.len() < geometry::memory_need(g) {
-        return Verdict::Refused(Refusal::unread(2));
+        return Verdict::Refused(Refusal {
+            number: 2,
+            reads: 0,
+        });
     }
     if flash.len() < geometry::flash_need(g) {
-        return Verdict::Refused(Refusal::unread(3));
+        return Verdict::Refused(Refusal {
+            number: 3,
+            reads: 0,
+        });
     }
     Verdict::Accepted
 }

@@ -24,7 +24,7 @@ pub fn put(memory: &mut [u8], flash: &mut [u8], key: u64, value: u64) -> Written
 {
     let number = opening::check(memory, flash);
     if number != 0 {
-        return Written::Refused(Refusal::unread(number));
+        return Written::Refused(Refusal { number, reads: 0 });
     }
     let g = opening::geometry_of(memory);
     put::call(memory, flash, g, key, value)
@@ -48,7 +48,7 @@ pub fn del(memory: &mut [u8], flash: &[u8], key: u64) -> Written
 {
     let number = opening::check(memory, flash);
     if number != 0 {
-        return Written::Refused(Refusal::unread(number));
+        return Written::Refused(Refusal { number, reads: 0 });
     }
     let g = opening::geometry_of(memory);
     del::call(memory, flash, g, key)
@@ -60,7 +60,7 @@ pub fn flush(memory: &mut [u8], flash: &mut [u8], partition: u32) -> Written
 {
     let number = opening::check(memory, flash);
     if number != 0 {
-        return Written::Refused(Refusal::unread(number));
+        return Written::Refused(Refusal { number, reads: 0 });
     }
     let g = opening::geometry_of(memory);
     flush::call(memory, flash, g, partition)
@@ -73,7 +73,7 @@ pub fn view_outcome(memory: &[u8], flash: &[u8], partition: u32, page: u32, flus
 {
     let number = opening::check(memory, flash);
     if number != 0 {
-        return Viewed::Refused(Refusal::unread(number));
+        return Viewed::Refused(Refusal { number, reads: 0 });
     }
     let g = opening::geometry_of(memory);
     view::call(memory, flash, g, partition, page, flush)

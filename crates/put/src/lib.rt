@@ -50,17 +50,26 @@ pub fn decide(part: &[u8], g: Geometry, key: u64) -> Plan
     ensures { λ r. ⌜ r ≡ planFor g key (now (part .entry)) ⌝ }
 {
     if partition::is_overfull(part, g, key) {
-        return Plan::Refused(Refusal::unread(12));
+        return Plan::Refused(Refusal {
+            number: 12,
+            reads: 0,
+        });
     }
     if !is_due(part, g, key) {
         return Plan::Store;
     }
     let head = Head::read(part);
     if partition::buffer::is_some_page_overfull(part, g) {
-        return Plan::Refused(Refusal::unread(12));
+        return Plan::Refused(Refusal {
+            number: 12,
+            reads: 0,
+        });
     }
     if head.flushes == 4294967295 {
-        return Plan::Refused(Refusal::unread(16));
+        return Plan::Refused(Refusal {
+            number: 16,
+            reads: 0,
+        });
     }
     Plan::Flush
 }

@@ -25,16 +25,25 @@ pub fn decide(part: &[u8], g: Geometry, t: u32, q: u32, n: u32) -> Verdict
 {
     let head = Head::read(part);
     if head.is_overfull(g) {
-        return Verdict::Refused(Refusal::unread(12));
+        return Verdict::Refused(Refusal {
+            number: 12,
+            reads: 0,
+        });
     }
     if n == 0 {
         if partition::buffer::is_page_overfull(part, g, q) {
-            return Verdict::Refused(Refusal::unread(12));
+            return Verdict::Refused(Refusal {
+                number: 12,
+                reads: 0,
+            });
         }
         return Verdict::Accepted;
     }
     if !head.is_live(g, n) {
-        return Verdict::Refused(Refusal::unread(17));
+        return Verdict::Refused(Refusal {
+            number: 17,
+            reads: 0,
+        });
     }
     Verdict::Accepted
 }
@@ -80,10 +89,16 @@ pub fn call(memory: &[u8], flash: &[u8], g: Geometry, t: u32, q: u32, n: u32) ->
     ensures { λ r. ⌜ Inside r (now (memory .entry)) (now (flash .entry)) ⌝ }
 {
     if geometry::partition_count(g) <= t {
-        return Viewed::Refused(Refusal::unread(4));
+        return Viewed::Refused(Refusal {
+            number: 4,
+            reads: 0,
+        });
     }
     if g.pages <= q {
-        return Viewed::Refused(Refusal::unread(4));
+        return Viewed::Refused(Refusal {
+            number: 4,
+            reads: 0,
+        });
     }
     match decide(partition::part_of(memory, g, t), g, t, q, n) {
         Verdict::Refused(refusal) => Viewed::Refused(refusal),

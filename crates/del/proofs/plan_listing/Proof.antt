@@ -3,9 +3,7 @@ use mathlib.Core.Option.{some}
 use mathlib.Core.Path.{_≡_, sym, _∙_, ap}
 use Rattle.model.specs.Del.{stampFor}
 use Rattle.head.proofs.Fields.{listed-is}
-use Rattle.answers.specs.Told.{ofRefusal}
 use Rattle.partition.proofs.Inside.{list-inside}
-use Rattle.del.specs.declared.Plan.{Plan}
 use Rattle.del.specs.Plans.{stamp}
 use Rattle.del.proofs.Planning.{nowhere, no-place, a-place}
 use native.Mathlib.Omega.{arith}
@@ -18,7 +16,7 @@ stamped : (c : tie.After-read) → let a = c .before .before .before .before .be
 stamped c = sym (c .before .before .before .before .stamp-for .ensures) ∙ ap stamp (c .before .before .n .given .1)
 
 returns : tie.Need-returns
-returns c = ap (λ r. Plan.Refused (ofRefusal r)) (c .unread .ensures) ∙ sym (no-place _ _ _ _ (stamped (c .before .before .before .before)) (omega (arith, listed-is (c .before .before .before .before .read .ensures))))
+returns c = sym (no-place _ _ _ _ (stamped (c .before .before .before)) (omega (arith, listed-is (c .before .before .before .read .ensures))))
 
 returns-2 : tie.Need-returns-2
 returns-2 c = sym (a-place _ _ _ _ (stamped (c .before .before .before)) (omega (arith, listed-is (c .before .before .before .read .ensures))))
@@ -27,4 +25,4 @@ returns-3 : tie.Need-returns-3
 returns-3 c = sym (nowhere _ _ _ (sym (c .before .before .stamp-for .ensures) ∙ ap stamp (c .enum-told .given .1)))
 
 pub plan-listing-spec : {M : Type 1} → statement M
-plan-listing-spec = tie.close (tie.spec (λ c κs. search needs) (λ c. search needs) (λ c κs. omega (arith, list-inside _ _ (c .before .before .before .before .before .pre .0))) (λ c κs. search needs) returns (λ c. search needs) returns-2 returns-3)
+plan-listing-spec = tie.close (tie.spec (λ c κs. search needs) (λ c. search needs) (λ c κs. omega (arith, list-inside _ _ (c .before .before .before .before .before .pre .0))) returns (λ c. search needs) returns-2 returns-3)

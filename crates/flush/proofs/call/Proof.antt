@@ -1,6 +1,6 @@
 -- Each answer is that of the definitions on an opened table; what the checks leave possible, the flush does as they say.
 use Prim.Native.Nat.{_<_}
-use mathlib.Core.Option.{none, some}
+use mathlib.Core.Option.{none}
 use mathlib.Core.Path.{_≡_, sym, _∙_, ap, ap₂}
 use native.Mathlib.Omega.{arith}
 use borrow.Author.Needs.{needs}
@@ -27,8 +27,8 @@ counted c = c .before .before .before .before
 -- ---- no such partition
 returns : tie.Need-returns
 returns c =
-    let s = start (c .before .before) in
-    refusing _ _ _ _ (checks-flush _ _ (s .pre .own) (s .pre .opens) _ ∙ flush-4 _ _ _ (omega (arith, c .before .if1 .taken, c .before .before .partition-count .ensures)) ∙ ap some (sym (c .unread .ensures)))
+    let s = start (c .before) in
+    refusing _ _ _ _ (checks-flush _ _ (s .pre .own) (s .pre .opens) _ ∙ flush-4 _ _ _ (omega (arith, c .if1 .taken, c .before .partition-count .ensures)))
 
 below : (c : tie.Else1) → start (c .before) .args .t < partitions (start (c .before) .args .g)
 below c = omega (arith, c .if1 .left, c .before .partition-count .ensures)
@@ -63,4 +63,4 @@ returns-3 c =
     doing _ _ _ _ _ _ (checks-flush _ _ (s .pre .own) (s .pre .opens) _ ∙ accepted e) (result-flush _ _ (s .pre .own) _) (effect-flush _ _ (s .pre .own) _ ∙ sym (ap₂ areas (r .0) (r .1)))
 
 pub call-spec : {M : Type 1} → statement M
-call-spec = tie.close (tie.spec (λ c κs. search needs) (λ c κs. tt) returns (λ c κs. search needs) decide-requires (λ c. search needs) (λ c. search needs) apply-at-requires (λ c. search needs) returns-2 (λ c. search needs) (λ c. search needs) returns-3)
+call-spec = tie.close (tie.spec (λ c κs. search needs) returns (λ c κs. search needs) decide-requires (λ c. search needs) (λ c. search needs) apply-at-requires (λ c. search needs) returns-2 (λ c. search needs) (λ c. search needs) returns-3)

@@ -1,6 +1,6 @@
 -- Each test of the code is the one of the definition, in its order; that of the partition's number stops nothing.
 use mathlib.Core.Bool.{Bool, true, false}
-use mathlib.Core.Option.{none, some}
+use mathlib.Core.Option.{none}
 use mathlib.Core.Path.{_≡_, sym, _∙_, ap}
 use native.Mathlib.Omega.{arith}
 use lib.Dec.{eqb}
@@ -33,13 +33,13 @@ pages-fit : (c : tie.Else2) → let a = c .before .before .before .before .befor
 pages-fit c = sym (c .before .is-some-page-overfull .ensures) ∙ c .if2 .left
 
 returns : tie.Need-returns
-returns c = ap some (c .unread .ensures) ∙ sym (flush-12 _ _ _ (c .before .before .before .before .before .pre .1) (sym (overfull (c .before .before)) ∙ c .before .if1 .taken))
+returns c = sym (flush-12 _ _ _ (c .before .before .before .before .pre .1) (sym (overfull (c .before)) ∙ c .if1 .taken))
 
 returns-2 : tie.Need-returns-2
-returns-2 c = ap some (c .unread2 .ensures) ∙ sym (flush-12-page _ _ _ (c .before .before .before .before .before .before .before .pre .1) (head-fits (c .before .before .before)) (sym (c .before .before .is-some-page-overfull .ensures) ∙ c .before .if2 .taken))
+returns-2 c = sym (flush-12-page _ _ _ (c .before .before .before .before .before .before .pre .1) (head-fits (c .before .before)) (sym (c .before .is-some-page-overfull .ensures) ∙ c .if2 .taken))
 
 returns-3 : tie.Need-returns-3
-returns-3 c = ap some (c .unread3 .ensures) ∙ sym (flush-last _ _ _ (start (c .before .before .before) .pre .1) (head-fits (c .before .before .before .before .before)) (pages-fit (c .before .before .before)) ∙ rw (sym (c .before .before .is-in-use .ensures) ∙ not-true _ (c .before .if3 .taken)))
+returns-3 c = sym (flush-last _ _ _ (start (c .before .before) .pre .1) (head-fits (c .before .before .before .before)) (pages-fit (c .before .before)) ∙ rw (sym (c .before .is-in-use .ensures) ∙ not-true _ (c .if3 .taken)))
 
 -- only the flush number is left to ask for
 in-use : (c : tie.Else3) → let a = c .before .before .before .before .before .before .before .before .args in inUse (a .g) (a .part .now) ≡ true
@@ -49,10 +49,10 @@ number : (c : tie.After-struct-known) → let a = start (c .before .before .befo
 number c b e = flush-last _ _ _ (start (c .before .before .before) .pre .1) (head-fits (c .before .before .before .before .before)) (pages-fit (c .before .before .before)) ∙ rw (in-use (c .before), e)
 
 returns-4 : tie.Need-returns-4
-returns-4 c = ap some (c .unread4 .ensures) ∙ sym (number (c .before .before) true (eq-eqb _ lastFlush (sym (flushes-is (read-at (c .before .before .before .before .before) .read .ensures)) ∙ c .before .if4 .taken)))
+returns-4 c = sym (number (c .before) true (eq-eqb _ lastFlush (sym (flushes-is (read-at (c .before .before .before .before) .read .ensures)) ∙ c .if4 .taken)))
 
 returns-5 : tie.Need-returns-5
 returns-5 c = sym (number (c .before) false (ne-eqb _ lastFlush (λ e. c .if4 .left (flushes-is (read-at (c .before .before .before .before) .read .ensures) ∙ e))))
 
 pub decide-spec : {M : Type 1} → statement M
-decide-spec = tie.close (tie.spec (λ c κs. omega (arith, list-inside _ _ (c .before .pre .0))) (λ c κs. tt) (λ c κs. tt) returns (λ c κs. search needs) (λ c κs. tt) returns-2 (λ c κs. search needs) (λ c κs. tt) returns-3 (λ c κs. tt) returns-4 returns-5)
+decide-spec = tie.close (tie.spec (λ c κs. omega (arith, list-inside _ _ (c .before .pre .0))) (λ c κs. tt) returns (λ c κs. search needs) returns-2 (λ c κs. search needs) returns-3 returns-4 returns-5)

@@ -1,6 +1,5 @@
 -- Every refusal before flash is read is the checks' own, and what is shown lies where the definition says.
 use Prim.Native.Nat.{_≤_, _<_}
-use mathlib.Core.Option.{some}
 use mathlib.Core.Path.{_≡_, sym, _∙_, ap}
 use native.Mathlib.Omega.{arith}
 use borrow.Author.Needs.{needs}
@@ -10,7 +9,7 @@ use Rattle.model.specs.Partition.{partition}
 use Rattle.model.specs.View.{viewChecks}
 use Rattle.model.proofs.Checks.{view-4}
 use Rattle.model.proofs.Calls.{checks-view, result-view, effect-view}
-use Rattle.answers.specs.Told.{asRefusal, verdict}
+use Rattle.answers.specs.Told.{verdict}
 use Rattle.answers.proofs.Performing.{refusing, looking}
 use Rattle.partition.proofs.Lending.{partition-whole}
 use Rattle.view.proofs.Showing.{shown-inside}
@@ -19,16 +18,16 @@ use Rattle.view.proofs.call.Tie as tie
 
 returns : tie.Need-returns
 returns c =
-    let s = c .before .before .before .before .before in
+    let s = c .before .before .before .before in
     let h : partitions (s .args .g) ≤ s .args .t = omega arith in
-    (refusing _ _ _ (asRefusal (c .unread .result)) (checks-view _ _ (s .pre .own) (s .pre .opens) _ _ _ ∙ view-4 _ _ _ _ _ (rw (le-ltb _ _ h)) ∙ ap some (sym (c .unread .ensures))), tt)
+    (refusing _ _ _ _ (checks-view _ _ (s .pre .own) (s .pre .opens) _ _ _ ∙ view-4 _ _ _ _ _ (rw (le-ltb _ _ h))), tt)
 
 returns-2 : tie.Need-returns-2
 returns-2 c =
-    let s = c .before .before .before .before .before .before .before in
+    let s = c .before .before .before .before .before .before in
     let l : s .args .t < partitions (s .args .g) = omega arith in
     let h : s .args .g .pages ≤ s .args .q = omega arith in
-    (refusing _ _ _ (asRefusal (c .unread2 .result)) (checks-view _ _ (s .pre .own) (s .pre .opens) _ _ _ ∙ view-4 _ _ _ _ _ (rw (lt-ltb _ _ l, le-ltb _ _ h)) ∙ ap some (sym (c .unread2 .ensures))), tt)
+    (refusing _ _ _ _ (checks-view _ _ (s .pre .own) (s .pre .opens) _ _ _ ∙ view-4 _ _ _ _ _ (rw (lt-ltb _ _ l, le-ltb _ _ h))), tt)
 
 -- what is left behind the tests for 4
 in-range : (c : tie.Else2) → let a = c .before .before .before .before .before .before .args in (a .t < partitions (a .g)) × (a .q < a .g .pages)
@@ -61,4 +60,4 @@ returns-4 c =
     )
 
 pub call-spec : {M : Type 1} → statement M
-call-spec = tie.close (tie.spec (λ c κs. search needs) (λ c κs. search needs) returns (λ c κs. search needs) returns-2 (λ c κs. search needs) decide-requires (λ c. search needs) (λ c. search needs) locate-requires returns-3 returns-4)
+call-spec = tie.close (tie.spec (λ c κs. search needs) returns returns-2 (λ c κs. search needs) decide-requires (λ c. search needs) (λ c. search needs) locate-requires returns-3 returns-4)

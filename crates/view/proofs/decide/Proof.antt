@@ -1,6 +1,6 @@
 -- The tests are those of `viewChecks`, in its order; refusal 4 is no longer possible.
 use mathlib.Core.Bool.{not}
-use mathlib.Core.Option.{none, some}
+use mathlib.Core.Option.{none}
 use mathlib.Core.Path.{_≡_, sym, _∙_, ap}
 use native.Mathlib.Omega.{arith}
 use borrow.Author.Needs.{needs}
@@ -32,14 +32,13 @@ is-live-requires : tie.Need-is-live-requires
 is-live-requires c κs = sym (c .before .before .is-overfull .ensures) ∙ c .before .if1 .left
 
 returns : tie.Need-returns
-returns c = let s = c .before .before .before .before .before in ap some (c .unread .ensures) ∙ sym (view-12 _ _ _ _ _ (s .pre .1 .0) (s .pre .1 .1) (tested (c .before .before) ∙ c .before .if1 .taken))
+returns c = let s = c .before .before .before .before in sym (view-12 _ _ _ _ _ (s .pre .1 .0) (s .pre .1 .1) (tested (c .before) ∙ c .if1 .taken))
 
 returns-2 : tie.Need-returns-2
 returns-2 c =
-    let s = c .before .before .before .before .before .before .before .before in
-    let e = c .before .before .before .before in
-    ap some (c .unread2 .ensures)
-    ∙ sym (view-12-page _ _ _ _ _ (s .pre .1 .0) (s .pre .1 .1) (tested (e .before) ∙ e .if1 .left) (c .before .before .before .if2 .taken) (sym (c .before .before .is-page-overfull .ensures) ∙ c .before .if3 .taken))
+    let s = c .before .before .before .before .before .before .before in
+    let e = c .before .before .before in
+    sym (view-12-page _ _ _ _ _ (s .pre .1 .0) (s .pre .1 .1) (tested (e .before) ∙ e .if1 .left) (c .before .before .if2 .taken) (sym (c .before .is-page-overfull .ensures) ∙ c .if3 .taken))
 
 returns-3 : tie.Need-returns-3
 returns-3 c =
@@ -49,10 +48,10 @@ returns-3 c =
     sym (view-last _ _ _ _ _ (s .pre .1 .0) (s .pre .1 .1) (tested (e .before) ∙ e .if1 .left) (rw zero (sym (c .before .is-page-overfull .ensures) ∙ c .if3 .left)) ∙ rw zero)
 
 returns-4 : tie.Need-returns-4
-returns-4 c = ap some (c .unread3 .ensures) ∙ sym (of-batch (c .before .before) ∙ rw (c .before .if4 .taken))
+returns-4 c = sym (of-batch (c .before) ∙ rw (c .if4 .taken))
 
 returns-5 : tie.Need-returns-5
 returns-5 c = sym (of-batch (c .before) ∙ rw (c .if4 .left))
 
 pub decide-spec : {M : Type 1} → statement M
-decide-spec = tie.close (tie.spec (λ c κs. omega (arith, list-inside _ _ (c .before .pre .0))) (λ c κs. search needs) (λ c κs. search needs) returns (λ c κs. search needs) (λ c κs. search needs) returns-2 returns-3 is-live-requires (λ c κs. search needs) returns-4 returns-5)
+decide-spec = tie.close (tie.spec (λ c κs. omega (arith, list-inside _ _ (c .before .pre .0))) (λ c κs. search needs) returns (λ c κs. search needs) returns-2 returns-3 is-live-requires returns-4 returns-5)
