@@ -76,7 +76,7 @@ pub fn any_numbers(rng: &mut Rng, g: Geometry) -> Geometry {
         ];
         numbers[i] = rng.pick(&near);
     }
-    geometry(numbers)
+    Geometry::new(numbers)
 }
 
 /// A partition, nearly always one that the table has.
