@@ -1,4 +1,4 @@
--- While areas and history are in step, every live batch's filter has exactly the bits of its pages' entries, and every stamp is a live batch.
+-- While areas and history are in step, every live batch's filter has exactly the bits of the one made of its pages, and every stamp is a live batch.
 use Prim.Native.Nat.{ℕ, zero, suc, _+_, _-_, _*_, _≤_, _<_}
 use mathlib.Core.Bool.{true}
 use mathlib.Core.Path.{_≡_, refl, sym, _∙_, ap}
@@ -13,14 +13,17 @@ use Rattle.model.specs.Bytes.{word}
 use Rattle.model.specs.Geometry.{partitions}
 use Rattle.model.specs.Records.{keyAt}
 use Rattle.model.specs.DeleteList.{stampAt}
+use Rattle.model.specs.Filter.{isSet, filterFor}
 use Rattle.model.specs.Partition.{partition, headOf, listedOf, listOf, slot, isLive, slotBits}
 use Rattle.model.specs.Answers.{Areas}
 use Rattle.model.specs.Get.{batchPage}
 use Rattle.model.specs.Calls.{geometryIn, partitionIn}
 use Rattle.model.proofs.Tests.{either}
-use Rattle.model.proofs.Tables.{find, Distinct, hasBit}
+use Rattle.model.proofs.Tables.{find, Distinct}
+use Rattle.model.proofs.Sizes.{sizes}
+use Rattle.model.proofs.FilterBits.{set-filterFor}
 use Rattle.model.proofs.Passing.{bits-same}
-use Rattle.model.proofs.Entries.{entriesFrom, pageEntries}
+use Rattle.model.proofs.Entries.{entriesFrom}
 use Rattle.model.proofs.ListEntries.{listEntries}
 use Rattle.history.specs.History.{History}
 use Rattle.history.proofs.Shows.{ShowsPart, live-by-head, live-by-table}
@@ -47,11 +50,13 @@ module _ (a : Areas) (h : History) (inv : InStep a h) (t : ℕ) (below : t < par
   at = inv .shows .part t below
 
   pub filters-exact : (n b : ℕ) → isLive (geometryIn a) (headOf (partitionIn a t)) n ≡ true → b < geometryIn a .bits
-      → slotBits (geometryIn a) (partitionIn a t) (slot (geometryIn a) n) b ≡ hasBit (geometryIn a) (λ q. pageEntries (batchPage (geometryIn a) t (a .flash) n q)) b
+      → slotBits (geometryIn a) (partitionIn a t) (slot (geometryIn a) n) b ≡ isSet (filterFor (geometryIn a) (batchPage (geometryIn a) t (a .flash) n)) b
   filters-exact n b l inside =
       let live = live-by-table at n (rw (inv .shows .geometry) at l) in
       rw (inv .shows .geometry)
-      (at .filter n b live (rw (inv .shows .geometry) at inside) ∙ sym (bits-same g _ (inv .table t .batch n) (λ q m. at .batch n live q m .page .entries) b))
+      (at .filter n b live (rw (inv .shows .geometry) at inside)
+      ∙ sym (bits-same g _ (inv .table t .batch n) (λ q m. at .batch n live q m .page .entries) b)
+      ∙ sym (set-filterFor g (sizes g (inv .shows .ok) .bits-is) (omega (arith, sizes g (inv .shows .ok) .bits-min)) b (batchPage g t (a .flash) n)))
 
   pub stamps-live : (i : ℕ) → i < listedOf (partitionIn a t) → isLive (geometryIn a) (headOf (partitionIn a t)) (stampAt (listOf (geometryIn a) (partitionIn a t)) i) ≡ true
   stamps-live i l =

@@ -6,12 +6,11 @@ use mathlib.Core.List.{List, _∷_}
 use Rattle.model.specs.declared.Geometry.{Geometry}
 use Rattle.model.specs.Geometry.{partitions, capacity}
 use Rattle.model.specs.DeleteList.{stampAt}
+use Rattle.model.specs.Filter.{isSet, filterFor}
 use Rattle.model.specs.Partition.{headOf, listedOf, listOf, slot, isLive, slotBits}
 use Rattle.model.specs.Answers.{Areas}
 use Rattle.model.specs.Get.{batchPage}
 use Rattle.model.specs.Calls.{Call, format, geometryIn, partitionIn, reply, run}
-use Rattle.model.proofs.Tables.{hasBit}
-use Rattle.model.proofs.Entries.{pageEntries}
 use Rattle.history.specs.History.{History, events, remember}
 use Rattle.history.specs.Claim.{Fits, AllFit, isRefused}
 use Rattle.history.proofs.InStep.{InStep}
@@ -23,9 +22,9 @@ use Rattle.history.proofs.Refusing.{possible, Among, refusals-possible}
 pub record Lasting (a : Areas) (h : History) : Type 0 where
   -- put pages × E, and Q for each entry in the buffers, is at most Q × puts
   pub count : h .putPages * capacity (h .geometry) + h .geometry .pages * buffered a ≤ h .geometry .pages * h .puts
-  -- a live batch's filter has exactly the bits of the entries of its pages
+  -- a live batch's filter has exactly the bits of the one made of its pages
   pub filters : (t n b : ℕ) → t < partitions (geometryIn a) → isLive (geometryIn a) (headOf (partitionIn a t)) n ≡ true → b < geometryIn a .bits
-      → slotBits (geometryIn a) (partitionIn a t) (slot (geometryIn a) n) b ≡ hasBit (geometryIn a) (λ q. pageEntries (batchPage (geometryIn a) t (a .flash) n q)) b
+      → slotBits (geometryIn a) (partitionIn a t) (slot (geometryIn a) n) b ≡ isSet (filterFor (geometryIn a) (batchPage (geometryIn a) t (a .flash) n)) b
   -- every stamp is a live batch
   pub stamps : (t i : ℕ) → t < partitions (geometryIn a) → i < listedOf (partitionIn a t)
       → isLive (geometryIn a) (headOf (partitionIn a t)) (stampAt (listOf (geometryIn a) (partitionIn a t)) i) ≡ true
