@@ -46,7 +46,7 @@ fn stamp_for(part: &[u8], g: Geometry, key: u64) -> Youngest
     let mut slot = n % g.kept;
     let mut count = head.live(g);
     while 0 < count {
-        slot = partition::batches::slot_before(g, slot);
+        slot = geometry::slot_before(g, slot);
         if filter::passes(part, g, slot, x) {
             return Youngest::Batch(n);
         }
@@ -81,13 +81,13 @@ pub fn decide(part: &[u8], g: Geometry, key: u64) -> Plan
     requires { ⌜ Whole g (now part) ⌝ }
     ensures { λ r. ⌜ r ≡ planFor g key (now (part .entry)) ⌝ }
 {
-    if partition::is_overfull(part, g, key) {
+    if buffer::is_key_overfull(part, g, key) {
         return Plan::Refused(Refusal {
             number: 12,
             reads: 0,
         });
     }
-    match partition::list::find(part, g, key) {
+    match list::find(part, g, key) {
         Found::At(_) => Plan::Nothing,
         Found::Nothing => plan_listing(part, g, key),
     }
@@ -100,7 +100,7 @@ fn list(part: &mut [u8], g: Geometry, key: u64, batch: u32)
     ensures { λ _. ⌜ now (part .exit) ≡ listedWith (some batch) g key (now (part .entry)) ⌝ }
 {
     let head = Head::read(part);
-    partition::list::enlist(part, g, head.listed as usize, key, batch);
+    list::enlist(part, g, head.listed as usize, key, batch);
     head::put_back(part, head.listed());
 }
 
@@ -110,7 +110,7 @@ fn apply(part: &mut [u8], g: Geometry, key: u64, youngest: Youngest)
     requires { ⌜ Listable g key (stamp youngest) (now part) ⌝ }
     ensures { λ _. ⌜ now (part .exit) ≡ listedWith (stamp youngest) g key (unbuffered g key (now (part .entry))) ⌝ }
 {
-    partition::buffer::drop_key(part, g, key);
+    buffer::drop_key(part, g, key);
     match youngest {
         Youngest::Batch(n) => list(part, g, key, n),
         Youngest::Nowhere => {}

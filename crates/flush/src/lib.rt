@@ -33,13 +33,13 @@ pub fn decide(part: &[u8], g: Geometry, t: u32) -> Verdict
             reads: 0,
         });
     }
-    if partition::buffer::is_some_page_overfull(part, g) {
+    if buffer::is_some_page_overfull(part, g) {
         return Verdict::Refused(Refusal {
             number: 12,
             reads: 0,
         });
     }
-    if !partition::buffer::is_in_use(part, g) {
+    if !buffer::is_in_use(part, g) {
         return Verdict::Refused(Refusal {
             number: 15,
             reads: 0,
@@ -63,7 +63,7 @@ fn move_batch(part: &mut [u8], flash: &mut [u8], g: Geometry, t: u32)
     ensures { λ _. ⌜ (now (part .exit) ≡ emptiedPages g t (g .pages) (now (part .entry))) × (now (flash .exit) ≡ withBatch g t (now (part .entry)) (g .pages) (now (flash .entry))) ⌝ }
 {
     let n = Head::read(part).flushes + 1;
-    let j = partition::batches::slot_of(g, n);
+    let j = geometry::slot_of(g, n);
     let pages = g.pages;
     let size = g.page as usize;
     let mut q = 0;
@@ -71,7 +71,7 @@ fn move_batch(part: &mut [u8], flash: &mut [u8], g: Geometry, t: u32)
         let at = geometry::slot_page_at(g, t, j, q);
         let from = geometry::buffer_at(g, q);
         page::copy_numbered(flash, at, part, from, size, n);
-        partition::buffer::empty_page(part, g, t, q);
+        buffer::empty_page(part, g, t, q);
         q += 1;
     }
 }
@@ -86,8 +86,8 @@ pub fn apply(part: &mut [u8], flash: &mut [u8], g: Geometry, t: u32)
     let head = Head::read(part);
     let flushes = head.flushes;
     let listed = head.listed;
-    filter::make(part, g, partition::batches::slot_of(g, flushes + 1));
-    let stay = partition::list::expire(part, g, flushes, listed);
+    filter::make(part, g, geometry::slot_of(g, flushes + 1));
+    let stay = list::expire(part, g, flushes, listed);
     move_batch(part, flash, g, t);
     head::put_back(part, head.flushed().unlisted(listed - stay as u32));
 }

@@ -66,7 +66,7 @@ fn empty_partitions(memory: &mut [u8], g: Geometry)
     while t < count {
         let a = geometry::partition_at(g, t);
         let e = a + size;
-        partition::buffer::empty_pages(&mut memory[a..e], g, t);
+        buffer::empty_pages(&mut memory[a..e], g, t);
         t += 1;
     }
 }

@@ -1,9 +1,10 @@
-// A table's numbers: which are allowed, what they need, where everything begins; and a key's partition, page and mixed form.
+// A table's numbers: which are allowed, what they need, where everything begins; a batch's slot; a key's partition, page and mixed form.
 ghost use mathlib.Core.Bool.{true};
 ghost use mathlib.Core.Path.{_≡_};
-ghost use Prim.Native.Nat.{_≤_, _<_};
+ghost use Prim.Native.Nat.{ℕ, _+_, _≤_, _<_};
 ghost use Rattle.model.specs.Geometry.{isPower, allowed, partitions, capacity, filterSize, filterAt, bufferAt, stride, partitionAt, memoryNeed, slotPageAt, flashNeed};
 ghost use Rattle.model.specs.Keys.{partitionOf, pageOf, mixed};
+ghost use Rattle.model.specs.Partition.{slot};
 use model::Geometry;
 
 // Is n a power of two from 2^low to 2^high?
@@ -115,6 +116,26 @@ pub fn memory_need(g: Geometry) -> usize
     ensures { λ r. ⌜ r ≡ memoryNeed g ⌝ }
 {
     partition_at(g, partition_count(g))
+}
+
+// The slot of batch n.
+pub fn slot_of(g: Geometry, n: u32) -> u32
+    requires { ⌜ allowed g ≡ true ⌝ }
+    requires { ⌜ 1 ≤ n ⌝ }
+    ensures { λ r. ⌜ r ≡ slot g n ⌝ }
+{
+    (n - 1) % g.kept
+}
+
+// The slot of a batch, from that of the batch after it: a way down through the batches that divides nothing.
+pub fn slot_before(g: Geometry, after: u32) -> u32
+    requires { ⌜ allowed g ≡ true ⌝ }
+    ensures { λ r. ⌜ ((n : ℕ) → 1 ≤ n → after ≡ slot g (n + 1) → r ≡ slot g n) ⌝ }
+{
+    if after == 0 {
+        return g.kept - 1;
+    }
+    after - 1
 }
 
 // Where page q of slot j of partition t begins in flash.

@@ -40,7 +40,7 @@ pub fn read_through(part: &[u8], flash: &[u8], g: Geometry, key: u64) -> Answer
     let mut reads: u32 = 0;
     'batches: while 0 < count {
         let n = next;
-        slot = partition::batches::slot_before(g, slot);
+        slot = geometry::slot_before(g, slot);
         next -= 1;
         count -= 1;
         if !filter::passes(part, g, slot, x) {
@@ -78,9 +78,9 @@ fn search_both(part: &[u8], flash: &[u8], g: Geometry, key: u64) -> Answer
     ensures { λ r. ⌜ answered r ≡ soughtIn none g key (now (part .entry)) (now (flash .entry)) ⌝ }
 {
     let q = geometry::page_of(g, key);
-    match partition::buffer::find(part, g, q, key) {
+    match buffer::find(part, g, q, key) {
         Found::At(i) => {
-            let value = partition::buffer::value(part, g, q, i);
+            let value = buffer::value(part, g, q, i);
             Answer::Found(Hit {
                 value,
                 tally: Tally { reads: 0 },
@@ -98,7 +98,7 @@ pub fn lookup(part: &[u8], flash: &[u8], g: Geometry, key: u64) -> Answer
     requires { ⌜ flashNeed g ≤ length (now flash) ⌝ }
     ensures { λ r. ⌜ answered r ≡ sought g key (now (part .entry)) (now (flash .entry)) ⌝ }
 {
-    match partition::list::find(part, g, key) {
+    match list::find(part, g, key) {
         Found::At(_) => Answer::Absent(Tally { reads: 0 }),
         Found::Nothing => search_both(part, flash, g, key),
     }
@@ -110,7 +110,7 @@ pub fn call(memory: &[u8], flash: &[u8], g: Geometry, key: u64) -> Answer
     ensures { λ r. ⌜ Performs (Call.get key) (now (memory .entry)) (now (flash .entry)) (answered r) (now (memory .entry)) (now (flash .entry)) ⌝ }
 {
     let part = partition::part_of_key(memory, g, key);
-    if partition::is_overfull(part, g, key) {
+    if buffer::is_key_overfull(part, g, key) {
         return Answer::Refused(Refusal {
             number: 12,
             reads: 0,

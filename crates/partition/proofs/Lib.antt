@@ -1,4 +1,3 @@
 pub mod Inside
 pub mod Lending
-pub mod Slots
 pub mod Flushing

@@ -1,4 +1,4 @@
-// One partition's bytes: where they lie in memory, its list, its buffer and its batches. The parts of a partition are lent here and nowhere else.
+// One partition's bytes, as a part of memory.
 ghost use mathlib.Core.Bool.{true};
 ghost use mathlib.Core.Path.{_≡_};
 ghost use Prim.Native.Nat.{_≤_, _<_};
@@ -6,14 +6,7 @@ ghost use lib.ListN.{length};
 ghost use Rattle.model.specs.Geometry.{allowed, partitions, memoryNeed};
 ghost use Rattle.model.specs.Keys.{partitionOf};
 ghost use Rattle.model.specs.Partition.{partition};
-ghost use Rattle.model.specs.Refusals.{keyOverfull};
-ghost use Rattle.partition.specs.Ready.{Whole};
-use head::Head;
 use model::Geometry;
-
-pub mod batches;
-pub mod buffer;
-pub mod list;
 
 // Partition t, as a part of memory.
 pub fn part_of(memory: &[u8], g: Geometry, t: u32) -> &[u8]
@@ -33,12 +26,4 @@ pub fn part_of_key(memory: &[u8], g: Geometry, key: u64) -> &[u8]
     ensures { λ r. ⌜ now r ≡ partition g (partitionOf g key) (now (memory .entry)) ⌝ }
 {
     part_of(memory, g, geometry::partition_of(g, key))
-}
-
-// 12 for a call with a key: does the head, or the key's buffer page, count more than there is room for?
-pub fn is_overfull(part: &[u8], g: Geometry, key: u64) -> bool
-    requires { ⌜ Whole g (now part) ⌝ }
-    ensures { λ r. ⌜ r ≡ keyOverfull g key (now (part .entry)) ⌝ }
-{
-    Head::read(part).is_overfull(g) | buffer::is_page_overfull(part, g, geometry::page_of(g, key))
 }

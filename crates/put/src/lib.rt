@@ -35,10 +35,10 @@ fn is_due(part: &[u8], g: Geometry, key: u64) -> bool
     ensures { λ r. ⌜ r ≡ due g key (now (part .entry)) ⌝ }
 {
     let q = geometry::page_of(g, key);
-    if partition::buffer::count(part, g, q) != geometry::page_capacity(g) {
+    if buffer::count(part, g, q) != geometry::page_capacity(g) {
         return false;
     }
-    match partition::buffer::find(part, g, q, key) {
+    match buffer::find(part, g, q, key) {
         Found::At(_) => false,
         Found::Nothing => true,
     }
@@ -49,7 +49,7 @@ pub fn decide(part: &[u8], g: Geometry, key: u64) -> Plan
     requires { ⌜ Whole g (now part) ⌝ }
     ensures { λ r. ⌜ r ≡ planFor g key (now (part .entry)) ⌝ }
 {
-    if partition::is_overfull(part, g, key) {
+    if buffer::is_key_overfull(part, g, key) {
         return Plan::Refused(Refusal {
             number: 12,
             reads: 0,
@@ -59,7 +59,7 @@ pub fn decide(part: &[u8], g: Geometry, key: u64) -> Plan
         return Plan::Store;
     }
     let head = Head::read(part);
-    if partition::buffer::is_some_page_overfull(part, g) {
+    if buffer::is_some_page_overfull(part, g) {
         return Plan::Refused(Refusal {
             number: 12,
             reads: 0,
@@ -80,10 +80,10 @@ fn unlist(part: &mut [u8], g: Geometry, key: u64)
     requires { ⌜ headOverfull g (headOf (now part)) ≡ false ⌝ }
     ensures { λ _. ⌜ now (part .exit) ≡ unlisted g key (now (part .entry)) ⌝ }
 {
-    match partition::list::find(part, g, key) {
+    match list::find(part, g, key) {
         Found::At(i) => {
             let head = Head::read(part);
-            partition::list::strike(part, g, i, head.listed as usize);
+            list::strike(part, g, i, head.listed as usize);
             head::put_back(part, head.unlisted(1));
         }
         Found::Nothing => {}
@@ -96,7 +96,7 @@ fn store_unlisted(part: &mut [u8], g: Geometry, key: u64, value: u64)
     requires { ⌜ Storable g key (now part) ⌝ }
     ensures { λ _. ⌜ now (part .exit) ≡ unlisted g key (buffered g key value (now (part .entry))) ⌝ }
 {
-    partition::buffer::store(part, g, key, value);
+    buffer::store(part, g, key, value);
     unlist(part, g, key);
 }
 

@@ -31,7 +31,7 @@ pub fn decide(part: &[u8], g: Geometry, t: u32, q: u32, n: u32) -> Verdict
         });
     }
     if n == 0 {
-        if partition::buffer::is_page_overfull(part, g, q) {
+        if buffer::is_page_overfull(part, g, q) {
             return Verdict::Refused(Refusal {
                 number: 12,
                 reads: 0,
@@ -57,7 +57,7 @@ fn locate_in_flash(flash: &[u8], g: Geometry, t: u32, q: u32, n: u32) -> Viewed
     requires { ⌜ 1 ≤ n ⌝ }
     ensures { λ r. ⌜ told.viewed r ≡ pageShown false g t q n (now (flash .entry)) ⌝ }
 {
-    let at = geometry::slot_page_at(g, t, partition::batches::slot_of(g, n), q);
+    let at = geometry::slot_page_at(g, t, geometry::slot_of(g, n), q);
     if page::is_expected_at(flash, at, g, t, n, q) {
         return Viewed::Flash(at, g.page as usize);
     }

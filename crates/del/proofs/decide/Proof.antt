@@ -11,7 +11,7 @@ use Rattle.del.proofs.decide.Statement.{statement}
 use Rattle.del.proofs.decide.Tie as tie
 
 fits : (c : tie.Else1) → let a = c .before .before .before .args in keyOverfull (a .g) (a .key) (a .part .now) ≡ false
-fits c = sym (c .before .is-overfull .ensures) ∙ c .if1 .left
+fits c = sym (c .before .is-key-overfull .ensures) ∙ c .if1 .left
 
 find-requires : tie.Need-find-requires
 find-requires c κs = (c .before .before .before .pre, key-fits _ _ _ (fits c) .0)
@@ -20,7 +20,7 @@ plan-listing-requires : tie.Need-plan-listing-requires
 plan-listing-requires c κs = (c .before .before .before .before .before .before .pre, key-fits _ _ _ (fits (c .before .before .before)) .0)
 
 returns : tie.Need-returns
-returns c = sym (over _ _ _ (sym (c .before .is-overfull .ensures) ∙ c .if1 .taken))
+returns c = sym (over _ _ _ (sym (c .before .is-key-overfull .ensures) ∙ c .if1 .taken))
 
 returns-2 : tie.Need-returns-2
 returns-2 c = sym (already _ _ _ (fits (c .before .before .before)) (ap isSome (told-at (c .before .before .find .ensures) (c .enum-told .given .1))))

@@ -8,7 +8,7 @@ use Rattle.model.proofs.Heads.{head-fits}
 use Rattle.model.proofs.Passing.{passing-from, batch-asked, pass-take, pass-skip, pass-end}
 use Rattle.head.proofs.Fields.{flushes-is}
 use Rattle.partition.proofs.Inside.{list-inside}
-use Rattle.partition.proofs.Slots.{slot-after}
+use Rattle.geometry.proofs.Slots.{slot-after}
 use native.Mathlib.Omega.{arith}
 use borrow.Author.Needs.{needs}
 use Rattle.del.proofs.stamp_for.Statement.{statement}

@@ -19,8 +19,8 @@ whole : (c : tie.After-part-of-key) → Whole (c .before .before .before .args .
 whole c = let s = c .before .before .before in rw (c .part-of-key .ensures) (key-whole _ _ (s .pre .fine) (s .pre .memoryFits) _ (omega arith))
 
 -- and the test is of it
-tested : (c : tie.After-is-overfull) → let a = c .before .before .before .before .args in keyOverfull (a .g) (a .key) (partition (a .g) (partitionOf (a .g) (a .key)) (a .memory .now)) ≡ c .is-overfull .result
-tested c = let a = c .before .before .before .before .args in sym (c .is-overfull .ensures ∙ ap (keyOverfull (a .g) (a .key)) (c .before .part-of-key .ensures))
+tested : (c : tie.After-is-key-overfull) → let a = c .before .before .before .before .args in keyOverfull (a .g) (a .key) (partition (a .g) (partitionOf (a .g) (a .key)) (a .memory .now)) ≡ c .is-key-overfull .result
+tested c = let a = c .before .before .before .before .args in sym (c .is-key-overfull .ensures ∙ ap (keyOverfull (a .g) (a .key)) (c .before .part-of-key .ensures))
 
 returns : tie.Need-returns
 returns c =
@@ -28,7 +28,7 @@ returns c =
     refusing _ _ _ (unread 12) (checks-get _ _ (w .own) (w .opens) _ ∙ get-12 _ _ _ (tested (c .before) ∙ c .if1 .taken))
 
 lookup-requires : tie.Need-lookup-requires
-lookup-requires c κs = (whole (c .before .before), (sym (c .before .is-overfull .ensures) ∙ c .if1 .left, c .before .before .before .before .before .pre .flashFits))
+lookup-requires c κs = (whole (c .before .before), (sym (c .before .is-key-overfull .ensures) ∙ c .if1 .left, c .before .before .before .before .before .pre .flashFits))
 
 returns-2 : tie.Need-returns-2
 returns-2 c =

@@ -11,7 +11,7 @@ use Rattle.model.proofs.Heads.{head-fits}
 use Rattle.model.proofs.Sizes.{sizes, slot-lt, partition-of-lt, page-of-lt}
 use Rattle.head.proofs.Fields.{flushes-is}
 use Rattle.partition.proofs.Inside.{list-inside}
-use Rattle.partition.proofs.Slots.{slot-after}
+use Rattle.geometry.proofs.Slots.{slot-after}
 use Rattle.answers.specs.Told.{answered}
 use Rattle.answers.specs.declared.Answer.the-variants.{Absent}
 use Rattle.get.proofs.Reading.{page-in-flash, AtBatch, AtEntry, at-start, own-filter, at-behind, at-hit, at-next, at-last, at-end, at-skip, at-bad, at-page}

@@ -14,7 +14,7 @@ use Rattle.put.proofs.decide.Tie as tie
 
 -- ---- what is known behind each test
 fits : (c : tie.Else1) → let a = c .before .before .before .args in keyOverfull (a .g) (a .key) (a .part .now) ≡ false
-fits c = sym (c .before .is-overfull .ensures) ∙ c .if1 .left
+fits c = sym (c .before .is-key-overfull .ensures) ∙ c .if1 .left
 
 is-due : (c : tie.Else2) → let a = c .before .before .before .before .before .args in due (a .g) (a .key) (a .part .now) ≡ true
 is-due c = sym (c .before .is-due .ensures) ∙ not-false _ (c .if2 .left)
@@ -27,7 +27,7 @@ read-requires : tie.Need-read-requires
 read-requires c κs = omega (arith, list-inside _ _ (c .before .before .before .before .before .pre))
 
 returns : tie.Need-returns
-returns c = sym (over _ _ _ (sym (c .before .is-overfull .ensures) ∙ c .if1 .taken))
+returns c = sym (over _ _ _ (sym (c .before .is-key-overfull .ensures) ∙ c .if1 .taken))
 
 returns-2 : tie.Need-returns-2
 returns-2 c = sym (not-due _ _ _ (fits (c .before .before)) (sym (c .before .is-due .ensures) ∙ not-true _ (c .if2 .taken)))
