@@ -6,7 +6,7 @@ use Rattle.model.specs.Session.{answerText}
 use Rattle.answers.specs.declared.Written.{Written}
 use Rattle.answers.specs.declared.Answer.{Answer}
 use Rattle.answers.specs.Told.{written, answered}
-use Rattle.printer.proofs.Printing.{length-answer}
+use Rattle.model.proofs.Sessions.{length-answer}
 
 abbrev OneTo64 : ℕ → Type 0
 OneTo64 n = (1 ≤ n) × (n ≤ 64)

@@ -1,19 +1,18 @@
 -- The number that a line says from a place on, figure by figure.
 use mathlib.Core.Path.{_≡_, refl, sym, _∙_, ap}
 use mathlib.Core.Logic.{⊎-elim}
-use mathlib.Core.Bool.{Bool, true, false, not, cond, _&&_, and-false}
+use mathlib.Core.Bool.{Bool, true, false, not}
 use mathlib.Core.List.{List, [], _∷_}
-use mathlib.Core.Option.{none, some, Option·some-injective}
+use mathlib.Core.Option.{none, some}
 use Prim.Native.Nat.{ℕ, _+_, _-_, _*_, _≤_, _<_}
-use native.Mathlib.Numerals.{add-one}
 use native.Mathlib.Omega.{arith}
-use lib.Dec.{ltb}
-use lib.ListN.{length, getD, drop, drop-of-length-le, List·getD-eq-default}
-use lib.Seq.{drop-cons, drop-drop}
-use borrow.Author.Tests.{leb-true, ltb-true, lt-ltb, le-ltb, ne-eqb}
+use lib.ListN.{length, getD, drop, List·getD-eq-default}
+use lib.Seq.{drop-drop}
+use borrow.Author.Tests.{leb-true, ne-eqb}
+use Rattle.model.specs.Text.{leading, isPlain, numberFrom, figure}
 use Rattle.model.proofs.Parts.{lt-or-ge}
-use Rattle.model.specs.Text.{leading, isPlain, numberFrom, Figure, figure}
 use Rattle.model.proofs.Tests.{both-true}
+use Rattle.model.proofs.Numbers.{leading-figure, leading-other, number-end, number-figure, number-grows, figure-over, figure-is}
 use Rattle.figures.specs.Places.{figureAt}
 
 module _ (line : List ℕ) (i : ℕ) where
@@ -24,13 +23,13 @@ module _ (line : List ℕ) (i : ℕ) where
       let low : 48 ≤ getD line i 0 = leb-true _ _ (w .0) in
       (⊎-elim (λ (l : i < length line). l) (λ (g : length line ≤ i). omega (arith, List·getD-eq-default line 0 g)) (lt-or-ge i (length line)), low, leb-true _ _ (w .1))
 
-  pub leading-more : figureAt line i ≡ true → leading (drop i line) ≡ getD line i 0 ∷ leading (drop (i + 1) line)
-  unfolding figureAt leading
-  leading-more e = rw (add-one, drop-cons line i 0 (figure-here e .0), e)
+  leading-more : figureAt line i ≡ true → leading (drop i line) ≡ getD line i 0 ∷ leading (drop (i + 1) line)
+  unfolding figureAt
+  leading-more e = leading-figure line i (figure-here e .0) e
 
   pub leading-none : figureAt line i ≡ false → leading (drop i line) ≡ []
-  unfolding figureAt leading
-  leading-none e = ⊎-elim (λ (l : i < length line). rw (drop-cons line i 0 l, e)) (λ (g : length line ≤ i). rw (drop-of-length-le line g)) (lt-or-ge i (length line))
+  unfolding figureAt
+  leading-none e = leading-other line i e
 
   -- a first figure that is not 0; and 0, which stands alone
   pub plain-more : figureAt line i ≡ true → (getD line i 0 ≡ 48 → ⊥) → isPlain (leading (drop i line)) ≡ true
@@ -45,34 +44,6 @@ unfolding figureAt
 plain-zero line i z true e = rw (leading-more line i (rw z), leading-more line (i + 1) e, z)
 plain-zero line i z false e = rw (leading-more line i (rw z), leading-none line (i + 1) e)
 
-pub number-grows : (ds : List ℕ) (n : ℕ) → n ≤ numberFrom n ds
-unfolding numberFrom
-number-grows [] n = omega arith
-number-grows (d ∷ ds) n = omega (arith, number-grows ds (10 * n + (d - 48)))
-
--- ---- the number that a text opens with
-module _ (limit : ℕ) (xs : List ℕ) where
-  pub figure-not-plain : isPlain (leading xs) ≡ false → figure limit xs ≡ none
-  unfolding figure
-  figure-not-plain e = rw e
-
-  pub figure-over : limit ≤ numberFrom 0 (leading xs) → figure limit xs ≡ none
-  unfolding figure
-  figure-over l = rw (le-ltb _ _ l, and-false)
-
-  pub figure-is : (n k : ℕ) → isPlain (leading xs) ≡ true → numberFrom 0 (leading xs) ≡ n → length (leading xs) ≡ k → n < limit → figure limit xs ≡ some (record { value = n; rest = drop k xs })
-  unfolding figure
-  figure-is n k p v l h = rw (p, v, lt-ltb _ _ h, l)
-
-  pub figure-below : (f : Figure) → figure limit xs ≡ some f → f .value < limit
-  unfolding figure
-  figure-below f e = go (isPlain (leading xs)) (ltb (numberFrom 0 (leading xs)) limit) refl e
-    where
-      go : (p q : Bool) → ltb (numberFrom 0 (leading xs)) limit ≡ q → cond (p && q) (some (record { value = numberFrom 0 (leading xs); rest = drop (length (leading xs)) xs })) none ≡ some f → f .value < limit
-      go true true l e = let v : numberFrom 0 (leading xs) ≡ f .value = ap (λ (g : Figure). g .value) (Option·some-injective _ _ e) in let b : numberFrom 0 (leading xs) < limit = ltb-true _ _ l in omega arith
-      go true false l e = let z : _≡_ {A = ℕ} 0 1 = cc in omega arith
-      go false q l e = let z : _≡_ {A = ℕ} 0 1 = cc in omega arith
-
 -- ---- a loop over the figures from `at` on: at the place i it has read n
 abbrev pub Reads : List ℕ → ℕ → ℕ → ℕ → Type 0
 Reads line at n i =
@@ -81,9 +52,8 @@ Reads line at n i =
 
 module _ (line : List ℕ) (at n i most : ℕ) (inv : Reads line at n i) where
   pub reads-more : figureAt line i ≡ true → Reads line at (10 * n + (getD line i 0 - 48)) (i + 1)
-  unfolding numberFrom
   reads-more e = (
-    sym (rw (leading-more line i e)) ∙ inv .0,
+    sym (ap (numberFrom n) (leading-more line i e) ∙ number-figure n _ _) ∙ inv .0,
     omega (arith, ap length (leading-more line i e)),
   )
 
@@ -91,8 +61,7 @@ module _ (line : List ℕ) (at n i most : ℕ) (inv : Reads line at n i) where
   reads-over e l = figure-over (most + 1) (drop at line) (omega (arith, number-grows (leading (drop (i + 1) line)) (10 * n + (getD line i 0 - 48)), reads-more e .0))
 
   pub reads-all : isPlain (leading (drop at line)) ≡ true → figureAt line i ≡ false → n ≤ most → figure (most + 1) (drop at line) ≡ some (record { value = n; rest = drop i line })
-  unfolding numberFrom
   reads-all p e l =
-      let v : numberFrom 0 (leading (drop at line)) ≡ n = sym (rw (leading-none line i e) at (inv .0)) in
+      let v : numberFrom 0 (leading (drop at line)) ≡ n = sym (inv .0) ∙ ap (numberFrom n) (leading-none line i e) ∙ number-end n in
       let k : i ≡ at + length (leading (drop at line)) = omega (arith, ap length (leading-none line i e)) in
       figure-is (most + 1) (drop at line) n (length (leading (drop at line))) p v refl (omega arith) ∙ rw (k, drop-drop)

@@ -6,7 +6,7 @@ use Prim.Native.Nat.{ℕ, _<_}
 use native.Mathlib.Omega.{arith}
 use Rattle.model.specs.Text.{past, Figure, figure}
 use Rattle.model.specs.Session.{then}
-use Rattle.figures.proofs.Reading.{figure-below}
+use Rattle.model.proofs.Numbers.{figure-read}
 
 -- what a callee says of its result, once it is known which result that is
 pub known : {E A : Type 0} (f : E → A) {r s : E} {o : A} → f r ≡ o → r ≡ s → o ≡ f s
@@ -26,4 +26,4 @@ read-below limit t xs f e = go (past t xs) e
   where
     go : (o : Option (List ℕ)) → then o (figure limit) ≡ some f → f .value < limit
     go none e = let z : _≡_ {A = ℕ} 0 1 = cc in omega arith
-    go (some ys) e = figure-below limit ys f e
+    go (some ys) e = figure-read limit ys f e .below

@@ -6,11 +6,11 @@ use mathlib.Core.Path.{_≡_, sym, _∙_}
 use native.Mathlib.Nat.{add-zero, add-assoc}
 use native.Mathlib.Omega.{arith}
 use lib.Dec.{eqb}
-use borrow.Author.Tests.{leb-true, eq-eqb, ne-eqb}
+use borrow.Author.Tests.{eq-eqb, ne-eqb}
 use Rattle.model.specs.declared.Geometry.{Geometry}
 use Rattle.model.specs.Bytes.{word, mid}
 use Rattle.model.specs.Search.{firstFrom}
-use Rattle.model.specs.Geometry.{allowed, partitions, capacity, slotPageAt, flashNeed}
+use Rattle.model.specs.Geometry.{allowed, partitions, slotPageAt, flashNeed}
 use Rattle.model.specs.Keys.{mixed, partitionOf, pageOf}
 use Rattle.model.specs.Records.{keyAt}
 use Rattle.model.specs.Page.{countOf, expected}
@@ -19,23 +19,11 @@ use Rattle.model.specs.Partition.{headOf, flushesOf, slot, live, slotBits, batc
 use Rattle.model.specs.Answers.{Answer, found, absent, refused, tally, batch}
 use Rattle.model.specs.Get.{hitIn, readThrough}
 use Rattle.model.proofs.Passing.{pass-take, pass-skip, pass-end, batch-asked, passing-from}
-use Rattle.model.proofs.Searching.{first-here, first-next, first-end}
+use Rattle.model.proofs.Lookup.{expected-fits, read-none, read-batch}
+use Rattle.model.proofs.Searching.{first-here, first-next, first-end, first-behind}
 use Rattle.model.proofs.Sizes.{sizes, slot-lt, slot-page-fits, flash-max}
-use Rattle.model.proofs.Tests.{both-true}
 use Rattle.model.proofs.Words.{word-mid}
 use Rattle.records.specs.Lacking.{Lacking}
-use Rattle.records.proofs.Blocks.{first-behind}
-
--- the used entries of a page with an expected head fit it
-expected-fits : (g : Geometry) → allowed g ≡ true → (t n q : ℕ) (p : List ℕ) → expected g t n q p ≡ true → 16 + 16 * countOf p ≤ g .page
-unfolding expected
-expected-fits g ok t n q p h =
-    let z = sizes g ok in
-    let four = both-true _ (eqb (word 4 p 8) n) h .0 in
-    let three = both-true _ (eqb (word 2 p 6) 0) four .0 in
-    let two = both-true _ (eqb (word 2 p 4) t) three .0 in
-    let l = leb-true (countOf p) (capacity g) (both-true _ (eqb (word 2 p 2) q) two .0) in
-    omega arith
 
 module _ (g : Geometry) (ok : allowed g ≡ true) (at : ℕ) where
   -- a page of flash opens with its count
@@ -97,8 +85,7 @@ module _ (g : Geometry) (k : ℕ) (p f : List ℕ) where
   -- ---- of the batches from n on
   module _ (count n reads : ℕ) (from : AtBatch count n reads) where
     pub at-end : count ≤ 0 → whole ≡ absent (tally reads)
-    unfolding readThrough
-    at-end l = from ∙ rw (pass-end g k p count n l)
+    at-end l = from ∙ rw (pass-end g k p count n l, read-none)
 
     module _ (l : 0 < count) where
       pub at-skip : batchPasses g k p n ≡ false → AtBatch (count - 1) (n - 1) reads
@@ -107,12 +94,11 @@ module _ (g : Geometry) (k : ℕ) (p f : List ℕ) where
       -- the filter passes: b is whether the key's page of that batch is as expected
       module _ (h : batchPasses g k p n ≡ true) (t q at : ℕ) (et : t ≡ partitionOf g k) (eq : q ≡ pageOf g k) (ea : at ≡ slotPageAt g t (slot g n) q) (b : Bool) (eb : b ≡ expected g t n q (mid at (g .page) f)) where
         pub at-bad : b ≡ false → whole ≡ refused 13 (reads + 1)
-        unfolding readThrough
-        at-bad x = from ∙ rw (pass-take g k p count n l h, ← et, ← eq, ← ea, ← eb, x)
+        at-bad x = from ∙ rw (pass-take g k p count n l h, read-batch, ← et, ← eq, ← ea, ← eb, x)
 
         pub at-page : allowed g ≡ true → (entries : ℕ) → entries ≡ word 2 f at → b ≡ true → (16 + 16 * entries ≤ g .page) × AtEntry (count - 1) (n - 1) (reads + 1) n at (entries + 1) 1
-        unfolding readThrough entriesFrom
+        unfolding entriesFrom
         at-page ok entries e x =
             let full = count-in g ok at f in
             let first : entries + 1 - 1 ≡ countOf (mid at (g .page) f) = omega arith in
-            (omega (arith, expected-fits g ok t n q (mid at (g .page) f) (sym eb ∙ x)), from ∙ rw (pass-take g k p count n l h, ← et, ← eq, ← ea, ← eb, x, first))
+            (omega (arith, expected-fits g t n q (mid at (g .page) f) ok (sym eb ∙ x)), from ∙ rw (pass-take g k p count n l h, read-batch, ← et, ← eq, ← ea, ← eb, x, first))

@@ -14,6 +14,7 @@ use Rattle.model.specs.Answers.{Areas, Refusal, Answer, refused, buffer, batch}
 use Rattle.model.specs.Get.{batchPage, hitIn, readThrough, sought}
 use Rattle.model.specs.Calls.{get, geometryIn, keyPartition, checks, reply}
 use Rattle.model.proofs.Tests.{either}
+use Rattle.model.proofs.Lookup.{read-none, read-batch, sought-listed, sought-unlisted}
 use Rattle.model.proofs.Calls.{result-get, reply-refused, reply-accepted}
 use Rattle.history.specs.Reads.{readOf, batchesRead, readBy, isPassed, heldIn, AllLack, Follows}
 
@@ -41,10 +42,10 @@ module _ (a : Areas) (k : ℕ) where
 
   walked : (count n reads : ℕ) (before : List ℕ) → AllLack a k before
       → Follows a k (readThrough g k (a .flash) (passingFrom g k p count n) reads) (before ++ readOf g k (a .flash) (passingFrom g k p count n))
-  unfolding readThrough readOf passingFrom
-  walked zero n reads before lacking = rw append-nil lacking
+  unfolding readOf passingFrom
+  walked zero n reads before lacking = rw (read-none, append-nil) lacking
   walked (suc count) n reads before lacking = either (isPassed a k n)
-      (λ passed. simp passed (page-read n before lacking passed (reads + 1) _ _ (walked count (n - 1) (reads + 1) (before ++ n ∷ []))
+      (λ passed. simp (passed, read-batch) (page-read n before lacking passed (reads + 1) _ _ (walked count (n - 1) (reads + 1) (before ++ n ∷ []))
       (expected g (partitionOf g k) n (pageOf g k) (page n)) (searched k (page n)) refl))
       (λ skipped. simp skipped (walked count (n - 1) reads before lacking))
 
@@ -55,9 +56,9 @@ module _ (a : Areas) (k : ℕ) where
   in-buffer none = walked (live g (headOf p)) (flushesOf p) 0 [] tt
 
   in-list : (o : Option ℕ) → listedAt (listedOf p) k (listOf g p) ≡ o → Follows a k (sought g k p (a .flash)) (readBy a k)
-  unfolding sought batchesRead
-  in-list (some i) e = rw e tt
-  in-list none e = rw e (in-buffer (searched k (bufferOf g p (pageOf g k))))
+  unfolding batchesRead
+  in-list (some i) e = rw (sought-listed g k (a .flash) p i e, e) tt
+  in-list none e = rw (sought-unlisted g k (a .flash) p e, e) (in-buffer (searched k (bufferOf g p (pageOf g k))))
 
   pub follows : Follows a k (reply a (get k)) (readBy a k)
   follows = go (checks a (get k)) refl

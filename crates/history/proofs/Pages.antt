@@ -6,13 +6,13 @@ use mathlib.Core.List.{List, []}
 use mathlib.Core.Option.{Option, none, some}
 use native.Mathlib.Omega.{arith}
 use lib.ListN.{length}
-use borrow.Author.Tests.{le-leb, eq-eqb}
 use Rattle.model.specs.declared.Geometry.{Geometry}
 use Rattle.model.specs.Bytes.{word}
 use Rattle.model.specs.Search.{isSome}
 use Rattle.model.specs.Geometry.{allowed, capacity}
 use Rattle.model.specs.Page.{countOf, searched, stored, without, emptied, numbered, expected}
 use Rattle.model.proofs.Sizes.{sizes}
+use Rattle.model.proofs.Lookup.{head-expected}
 use Rattle.model.proofs.Lengths.{length-stored, length-without, length-emptied, length-numbered}
 use Rattle.model.proofs.Tables.{Entry, find, store, erase, length-store, length-erase}
 use Rattle.model.proofs.Entries.{pageEntries, heldAt, count-entries, find-searched, head-stored, entries-stored, head-without, entries-without, entries-emptied, count-emptied, numbers-emptied, zero-emptied, head-numbered, count-numbered, entries-numbered}
@@ -43,8 +43,7 @@ module _ {g : Geometry} {t q : ℕ} {p : List ℕ} {es : List Entry} (shows : Sh
 
   -- with its flush number it is as refusal 13 expects it
   pub page-expected : (n : ℕ) → word 4 p 8 ≡ n → expected g t n q p ≡ true
-  unfolding expected
-  page-expected n e = simp (le-leb _ _ (shows .fits), eq-eqb _ _ (shows .number), eq-eqb _ _ (shows .partition), eq-eqb _ _ (shows .zero), eq-eqb _ _ e)
+  page-expected n e = head-expected g t n q p (record { fits = shows .fits; number = shows .number; partition = shows .partition; zero = shows .zero; flush = e })
 
   module _ (ok : allowed g ≡ true) where
     room : 16 + 16 * countOf p ≤ length p

@@ -1,7 +1,7 @@
 -- A get on bytes that show a partition answers as the partition does, and reads the same batches; refusal 13 does not come up.
 use Prim.Native.Nat.{ℕ, _+_, _≤_}
 use mathlib.Core.Bool.{Bool, true, false, cond, not}
-use mathlib.Core.Path.{_≡_, refl, ap}
+use mathlib.Core.Path.{_≡_, refl, _∙_, ap}
 use mathlib.Core.List.{List, [], _∷_}
 use mathlib.Core.Option.{Option, none, some}
 use Rattle.model.specs.declared.Geometry.{Geometry}
@@ -12,10 +12,11 @@ use Rattle.model.specs.Page.{searched, expected}
 use Rattle.model.specs.DeleteList.{listedAt}
 use Rattle.model.specs.Partition.{listedOf, listOf, bufferOf, passing}
 use Rattle.model.specs.Answers.{Answer, buffer, batch}
-use Rattle.model.specs.Get.{batchPage, hitIn, readThrough, soughtIn, sought}
+use Rattle.model.specs.Get.{batchPage, hitIn, readThrough, sought}
 use Rattle.model.proofs.Sizes.{page-of-lt}
 use Rattle.model.proofs.Tables.{find}
 use Rattle.model.proofs.Entries.{heldAt}
+use Rattle.model.proofs.Lookup.{read-none, read-batch, sought-listed, sought-unlisted}
 use Rattle.history.specs.Reads.{readOf, batchesRead, LiveFalling}
 use Rattle.history.proofs.Table.{Part, Live, passing as passingOf}
 use Rattle.history.proofs.Walk.{lookIn, answerAt, walk, walkRead, LiveBatches, passing-live}
@@ -40,11 +41,11 @@ module _ (g : Geometry) (ok : allowed g ≡ true) (k : ℕ) (p f : List ℕ) (s 
     is-expected = page-expected (shown .page) n (shown .flush)
 
   read-through : (high : ℕ) (ns : List ℕ) (reads : ℕ) → LiveBatches s high ns → readThrough g k f ns reads ≡ walk (lookIn g k s) ns reads
-  unfolding readThrough walk
-  read-through high [] reads falls = refl
+  unfolding walk
+  read-through high [] reads falls = read-none g k f reads
   read-through high (n ∷ ns) reads falls =
       let page : List ℕ = batchPage g (partitionOf g k) f n (pageOf g k) in
-      rw (is-expected n (falls .0), page-find (shown n (falls .0) .page) k, ← (read-through n ns (reads + 1) (falls .2)))
+      rw (read-batch g k f n ns reads, is-expected n (falls .0), page-find (shown n (falls .0) .page) k, ← (read-through n ns (reads + 1) (falls .2)))
       (hit-batch page n (reads + 1) (searched k page) (readThrough g k f ns (reads + 1)))
 
   read-of : (high : ℕ) (ns : List ℕ) → LiveBatches s high ns → readOf g k f ns ≡ walkRead (lookIn g k s) ns
@@ -70,14 +71,13 @@ module _ (g : Geometry) (ok : allowed g ≡ true) (k : ℕ) (p f : List ℕ) (s 
   hit-buffer none = rw (passing-shown g ok (partitionOf g k) p f s shows k within) (read-through _ (passingOf g k s) 0 (passing-live g k s within))
   hit-buffer (some i) = refl
 
-  sought-in : (o : Option ℕ) → soughtIn o g k p f ≡ lookedUp g k s (heldAt 4 (listOf g p) o) (heldAt 8 buffered (searched k buffered))
+  sought-in : (o : Option ℕ) → listedAt (listedOf p) k (listOf g p) ≡ o → sought g k p f ≡ lookedUp g k s (heldAt 4 (listOf g p) o) (heldAt 8 buffered (searched k buffered))
   unfolding buffered
-  sought-in none = hit-buffer (searched k buffered)
-  sought-in (some i) = refl
+  sought-in none e = sought-unlisted g k f p e ∙ hit-buffer (searched k buffered)
+  sought-in (some i) e = sought-listed g k f p i e
 
   pub sought-shown : sought g k p f ≡ lookedUp g k s (find k (s .list)) (find k (s .buffer (pageOf g k)))
-  unfolding sought
-  sought-shown = rw (list-find shows k, in-buffer) (sought-in (listedAt (listedOf p) k (listOf g p)))
+  sought-shown = rw (list-find shows k, in-buffer) (sought-in (listedAt (listedOf p) k (listOf g p)) refl)
 
   read-in : (m b : Option ℕ) → cond (isSome m) [] (cond (isSome b) [] (readOf g k f (passing g k p))) ≡ batchesFor g k s m b
   read-in (some i) b = refl

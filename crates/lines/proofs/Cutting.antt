@@ -11,10 +11,11 @@ use borrow.Author.Tests.{ne-eqb}
 use Rattle.model.proofs.Parts.{lt-or-ge}
 use Rattle.model.specs.Text.{text}
 use Rattle.model.specs.Answers.{Areas}
-use Rattle.model.specs.Session.{startedBy, callOf, linePrints, lineLeaves, linesOf, linesPrint, linesLeave}
+use Rattle.model.specs.Session.{startedBy, callOf, linesOf, linesPrint, linesLeave}
+use Rattle.model.proofs.Sessions.{prints-bad, leaves-same, print-line, leave-line}
 use Rattle.lines.specs.Lines.{Unended, longest, Same}
 use Rattle.lines.proofs.Lines.{unended-rest}
-use Rattle.lines.proofs.Longest.{long-says-none}
+use Rattle.model.proofs.Longest.{long-says-none}
 
 -- the first line of a list of lines, and the others
 abbrev first : List (List ℕ) → List ℕ
@@ -37,13 +38,11 @@ lines-on x (y ∷ xs) more h = rw (ne-eqb x 10 (h 0 (omega arith) (omega arith))
 
 -- a line that says no call
 module _ (line : List ℕ) (ls : List (List ℕ)) (a : Areas) (e : callOf line ≡ none) where
-  prints-bad : linesPrint (line ∷ ls) a ≡ text "(bad)\n" ++ linesPrint ls a
-  unfolding linesPrint linePrints lineLeaves
-  prints-bad = rw e
+  bad-prints : linesPrint (line ∷ ls) a ≡ text "(bad)\n" ++ linesPrint ls a
+  bad-prints = rw (print-line line ls a, prints-bad line a e, leaves-same line a e)
 
-  leaves-bad : linesLeave (line ∷ ls) a ≡ linesLeave ls a
-  unfolding linesLeave lineLeaves
-  leaves-bad = rw e
+  bad-leaves : linesLeave (line ∷ ls) a ≡ linesLeave ls a
+  bad-leaves = rw (leave-line line ls a, leaves-same line a e)
 
 -- all that a line too long prints and leaves, whatever follows it
 module _ (more : List ℕ) (a : Areas) where
@@ -52,11 +51,11 @@ module _ (more : List ℕ) (a : Areas) where
 
   long-prints : (xs : List ℕ) → Unended 0 xs → 138 < length xs → linesPrint (linesOf (xs ++ more)) a ≡ text "(bad)\n" ++ linesPrint (others (linesOf more)) a
   long-prints [] h l = absurd (omega arith)
-  long-prints (x ∷ xs) h l = rw (lines-on x xs more h) (prints-bad _ _ a (no-call (x ∷ xs) l))
+  long-prints (x ∷ xs) h l = rw (lines-on x xs more h) (bad-prints _ _ a (no-call (x ∷ xs) l))
 
   long-leaves : (xs : List ℕ) → Unended 0 xs → 138 < length xs → linesLeave (linesOf (xs ++ more)) a ≡ linesLeave (others (linesOf more)) a
   long-leaves [] h l = absurd (omega arith)
-  long-leaves (x ∷ xs) h l = rw (lines-on x xs more h) (leaves-bad _ _ a (no-call (x ∷ xs) l))
+  long-leaves (x ∷ xs) h l = rw (lines-on x xs more h) (bad-leaves _ _ a (no-call (x ∷ xs) l))
 
 pub unended-take : (n : ℕ) (xs : List ℕ) → Unended 0 xs → Unended 0 (take n xs)
 unended-take n xs h i g l e =

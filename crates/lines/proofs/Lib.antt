@@ -1,4 +1,3 @@
 pub mod Lines
-pub mod Longest
 pub mod Cutting
 pub mod Keeping

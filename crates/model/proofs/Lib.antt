@@ -20,7 +20,13 @@ pub mod PartitionsFlash
 pub mod PartitionsFormat
 pub mod PartitionsCalls
 pub mod Checks
+pub mod Lookup
 pub mod Calls
+pub mod Texts
+pub mod Decimals
+pub mod Numbers
+pub mod RoundTrip
+pub mod Longest
 pub mod Sessions
 pub mod Computing
 pub mod Faults

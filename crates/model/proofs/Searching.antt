@@ -1,11 +1,12 @@
 -- Laws of `firstFrom`, over any test: what a loop over the numbers shows of it, and what its answer tells.
-use mathlib.Core.Path.{_≡_, refl}
+use mathlib.Core.Path.{_≡_, refl, _∙_}
 use mathlib.Core.Logic.{⊎-elim}
 use mathlib.Core.Bool.{Bool, true, false}
 use mathlib.Core.Option.{Option, none, some}
 use Prim.Native.Nat.{ℕ, zero, suc, _+_, _-_, _≤_, _<_}
+use native.Mathlib.Nat.{add-zero}
 use native.Mathlib.Omega.{arith}
-use Rattle.model.specs.Search.{firstFrom}
+use Rattle.model.specs.Search.{firstFrom, anyFrom}
 use Rattle.model.proofs.Parts.{lt-or-ge}
 
 -- j is the first of the n numbers from i on that passes
@@ -32,6 +33,35 @@ module _ (test : ℕ → Bool) where
   pub first-end : (end i : ℕ) → end ≤ i → firstFrom (end - i) i test ≡ none
   unfolding firstFrom
   first-end end i l = let e : end - i ≡ 0 = omega arith in rw e
+
+  -- the search goes on behind r numbers that do not pass
+  pub first-behind : (n i r : ℕ) → ((j : ℕ) → j < r → test (i + j) ≡ false) → r ≤ n → firstFrom n i test ≡ firstFrom (n - r) (i + r) test
+  unfolding firstFrom
+  first-behind n i zero h l = let e : n - 0 ≡ n = omega arith in rw (add-zero, e)
+  first-behind zero i (suc r) h l = absurd (omega arith)
+  first-behind (suc n) i (suc r) h l =
+      let here : test i ≡ false = rw add-zero at (h 0 (omega arith)) in
+      let next : (j : ℕ) → j < r → test (i + 1 + j) ≡ false = λ j b. (let e : i + 1 + j ≡ i + suc j = omega arith in rw e (h (suc j) (omega arith))) in
+      let e : i + suc r ≡ i + 1 + r = omega arith in
+      let d : suc n - suc r ≡ n - r = omega arith in
+      rw (here, e, d) (first-behind n (i + 1) r next (omega arith))
+
+  -- some number of a few, tried in their order
+  pub any-here : (n i : ℕ) → test i ≡ true → true ≡ anyFrom (suc n) i test
+  unfolding firstFrom
+  any-here n i h = rw h
+
+  pub any-next : (n i : ℕ) → test i ≡ false → anyFrom n (i + 1) test ≡ anyFrom (suc n) i test
+  unfolding firstFrom
+  any-next n i h = rw h
+
+  pub any-alone : (i : ℕ) → test i ≡ anyFrom 1 i test
+  unfolding firstFrom
+  any-alone i = go (test i) refl
+    where
+      go : (b : Bool) → test i ≡ b → test i ≡ anyFrom 1 i test
+      go true h = h ∙ any-here 0 i h
+      go false h = h ∙ any-next 0 i h
 
   -- what an answer tells
   pub first-at : (n i j : ℕ) → firstFrom n i test ≡ some j → First test n i j

@@ -6,10 +6,8 @@ use native.Mathlib.Omega.{arith}
 use lib.ListN.{length, set, length-append}
 use Rattle.model.proofs.Parts.{sets-append}
 use Rattle.model.specs.Text.{decimal}
-use Rattle.model.specs.Answers.{Answer, done, found, absent, refused, shown}
-use Rattle.model.specs.Session.{answerText}
 use Rattle.printer.specs.Puts.{Puts}
-use Rattle.printer.proofs.Decimals.{figures-one, decimal-more, length-decimal}
+use Rattle.model.proofs.Decimals.{figures-one, decimal-more}
 
 pub puts-append : {xs ys : List ℕ} {at p r : ℕ} {a b c : List ℕ} → Puts xs at a p b → Puts ys p b r c → Puts (xs ++ ys) at a r c
 puts-append {xs} {ys} {at} {p} {r} {a} {b} {c} f g =
@@ -30,12 +28,3 @@ puts-one n at a l = rw (figures-one 19 n l) (puts-byte (48 + n) at a)
 
 pub puts-more : {n at p : ℕ} {a b : List ℕ} → n < 10 ^ 20 → 10 ≤ n → Puts (decimal (n / 10)) at a p b → Puts (decimal n) at a (p + 1) (set b p (48 + n % 10))
 puts-more {n} {p = p} {b = b} l g f = rw (decimal-more n l g) (puts-append f (puts-byte (48 + n % 10) p b))
-
--- an answer's text has at most 64 bytes
-pub length-answer : (a : Answer) → length (answerText a) ≤ 64
-unfolding answerText
-length-answer (done n) = simp length-append (omega (arith, length-decimal n))
-length-answer (found v c p) = simp length-append (omega (arith, length-decimal v, length-decimal (c .reads)))
-length-answer (absent c) = simp length-append (omega (arith, length-decimal (c .reads)))
-length-answer (refused n r) = simp length-append (omega (arith, length-decimal n, length-decimal r))
-length-answer (shown s) = omega arith

@@ -1,41 +1,22 @@
 -- Records passed over in blocks: what a block lacks, all that came before and the block lack.
 use mathlib.Core.Path.{_≡_, refl, sym, _∙_, ap}
 use mathlib.Core.Logic.{⊎-elim}
-use mathlib.Core.Bool.{Bool, true, false, false≢true}
+use mathlib.Core.Bool.{false, false≢true}
 use mathlib.Core.List.{List}
 use mathlib.Core.Option.{Option, none, some}
-use Prim.Native.Nat.{ℕ, zero, suc, _+_, _-_, _*_, _/_, _≤_, _<_}
-use native.Mathlib.Nat.{add-zero}
+use Prim.Native.Nat.{ℕ, _+_, _-_, _*_, _/_, _≤_, _<_}
 use native.Mathlib.Omega.{arith}
 use lib.Dec.{eqb}
 use Rattle.model.specs.Bytes.{word}
 use Rattle.model.specs.Records.{firstRecord}
-use Rattle.model.specs.Search.{firstFrom, isSome, anyFrom}
+use Rattle.model.specs.Search.{isSome, anyFrom}
 use Rattle.model.proofs.Parts.{lt-or-ge}
-use Rattle.model.proofs.Searching.{first-none}
+use Rattle.model.proofs.Searching.{first-none, first-behind}
 use Rattle.records.specs.Lacking.{hasKey, Lacking}
 
 none-of : {A : Type 0} (o : Option A) → isSome o ≡ false → o ≡ none
 none-of none e = refl
 none-of (some x) e = absurd (false≢true (sym e))
-
--- a block's records in their order
-module _ (f : ℕ → Bool) where
-  pub any-here : (n i : ℕ) → f i ≡ true → true ≡ anyFrom (suc n) i f
-  unfolding firstFrom
-  any-here n i h = rw h
-
-  pub any-next : (n i : ℕ) → f i ≡ false → anyFrom n (i + 1) f ≡ anyFrom (suc n) i f
-  unfolding firstFrom
-  any-next n i h = rw h
-
-  pub any-one : (i : ℕ) → f i ≡ anyFrom 1 i f
-  unfolding firstFrom
-  any-one i = go (f i) refl
-    where
-      go : (b : Bool) → f i ≡ b → f i ≡ anyFrom 1 i f
-      go true h = h ∙ any-here 0 i h
-      go false h = h ∙ any-next 0 i h
 
 -- r records lack the key, and so do the m behind them
 pub lack-more : (key at : ℕ) (xs : List ℕ) (m r : ℕ) → ((i : ℕ) → i < r → hasKey key at xs i ≡ false) → anyFrom m 0 (hasKey key (at + 16 * r) xs) ≡ false → (i : ℕ) → i < r + m → hasKey key at xs i ≡ false
@@ -63,18 +44,6 @@ one-passed key at bytes xs p block =
 
 pub passed-lacks : (key at n bytes : ℕ) (xs : List ℕ) → Passed key at xs bytes → bytes ≤ 64 * (n / 4) → Lacking key at xs n (bytes / 16)
 passed-lacks key at n bytes xs p l = record { within = omega (arith, p .size); lack = λ i h. p .lack i (omega (arith, p .size)) }
-
--- a search goes on behind those that lack the key
-pub first-behind : (test : ℕ → Bool) (n i r : ℕ) → ((j : ℕ) → j < r → test (i + j) ≡ false) → r ≤ n → firstFrom n i test ≡ firstFrom (n - r) (i + r) test
-unfolding firstFrom
-first-behind test n i zero h l = let e : n - 0 ≡ n = omega arith in rw (add-zero, e)
-first-behind test zero i (suc r) h l = absurd (omega arith)
-first-behind test (suc n) i (suc r) h l =
-    let here : test i ≡ false = rw add-zero at (h 0 (omega arith)) in
-    let next : (j : ℕ) → j < r → test (i + 1 + j) ≡ false = λ j b. (let e : i + 1 + j ≡ i + suc j = omega arith in rw e (h (suc j) (omega arith))) in
-    let e : i + suc r ≡ i + 1 + r = omega arith in
-    let d : suc n - suc r ≡ n - r = omega arith in
-    rw (here, e, d) (first-behind test n (i + 1) r next (omega arith))
 
 -- the search for a key among n records from `from` on goes on behind r that lack it
 pub search-behind : (key n from r : ℕ) (xs : List ℕ) → Lacking key (16 * from) xs n r → firstRecord key n from xs ≡ firstRecord key (from + n - (from + r)) (from + r) xs

@@ -1,4 +1,3 @@
 pub mod Pieces
 pub mod Running
 pub mod Taking
-pub mod RoundTrip

@@ -7,7 +7,8 @@ use native.Mathlib.Omega.{arith}
 use borrow.Author.Needs.{needs}
 use mathlib.Core.Path.{_≡_, refl, sym, _∙_}
 use lib.ListN.{length}
-use Rattle.figures.proofs.Reading.{Reads, reads-more, reads-over, reads-all, figure-here, figure-not-plain}
+use Rattle.model.proofs.Numbers.{figure-not-plain}
+use Rattle.figures.proofs.Reading.{Reads, reads-more, reads-over, reads-all, figure-here}
 use Rattle.figures.proofs.number_at.Statement.{statement}
 use Rattle.figures.proofs.number_at.Tie as tie
 

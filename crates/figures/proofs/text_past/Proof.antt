@@ -4,7 +4,7 @@ use native.Mathlib.Omega.{arith}
 use mathlib.Core.Path.{_≡_, refl, sym, _∙_}
 use lib.ListN.{length, drop}
 use Rattle.model.specs.Text.{past}
-use Rattle.figures.proofs.Texts.{past-next, past-other, past-short, past-whole}
+use Rattle.model.proofs.Texts.{past-next, past-other, past-short, past-whole}
 use Rattle.figures.proofs.text_past.Statement.{statement}
 use Rattle.figures.proofs.text_past.Tie as tie
 

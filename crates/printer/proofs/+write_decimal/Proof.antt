@@ -4,7 +4,7 @@ use native.Mathlib.Omega.{arith}
 use lib.ListN.{length-set}
 use borrow.Fn.Kinds.{In}
 use borrow.Fn.PlainCycle.{Measures, is, falls, and}
-use Rattle.printer.proofs.Decimals.{length-rest}
+use Rattle.model.proofs.Decimals.{length-rest}
 use Rattle.printer.proofs.Printing.{puts-one, puts-more}
 use Rattle.printer.proofs.write_decimal.Reads as reads
 use Rattle.printer.proofs.write_decimal.Kinds as kinds

@@ -1,6 +1,6 @@
 -- Text, figures and end are written one behind another; figures are at most 20.
 use native.Mathlib.Omega.{arith}
-use Rattle.printer.proofs.Decimals.{length-decimal}
+use Rattle.model.proofs.Decimals.{length-decimal}
 use Rattle.printer.proofs.Printing.{puts-append}
 use borrow.Author.Needs.{needs}
 use Rattle.printer.proofs.write_one.Statement.{statement}

@@ -1,7 +1,7 @@
 -- The second number and the end are written as an answer of one number whose text is a space.
 use native.Mathlib.Omega.{arith}
 use Rattle.model.specs.Text.{text, decimal}
-use Rattle.printer.proofs.Decimals.{length-decimal}
+use Rattle.model.proofs.Decimals.{length-decimal}
 use Rattle.printer.proofs.Printing.{puts-append, puts-three}
 use borrow.Author.Needs.{needs}
 use Rattle.printer.proofs.write_two.Statement.{statement}

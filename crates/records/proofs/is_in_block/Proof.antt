@@ -8,7 +8,7 @@ use Prim.Native.Nat.{ℕ, _+_}
 use lib.Dec.{eqb}
 use borrow.Author.Tests.{eq-eqb, ne-eqb}
 use Rattle.model.specs.Bytes.{word}
-use Rattle.records.proofs.Blocks.{any-here, any-next, any-one}
+use Rattle.model.proofs.Searching.{any-here, any-next, any-alone}
 use Rattle.records.proofs.is_in_block.Statement.{statement}
 use Rattle.records.proofs.is_in_block.Tie as tie
 
@@ -44,7 +44,7 @@ returns-4 : tie.Need-returns-4
 returns-4 c =
     let d = c .before .before in
     let e = d .before .before in
-    same _ (c .u64-at4 .ensures) ∙ any-one _ 3
+    same _ (c .u64-at4 .ensures) ∙ any-alone _ 3
     ∙ any-next _ 1 2 (lacks (d .u64-at3 .ensures) (c .before .if3 .left))
     ∙ any-next _ 2 1 (lacks (e .u64-at2 .ensures) (d .before .if2 .left))
     ∙ any-next _ 3 0 (lacks (first _ _ _ (e .before .before .u64-at .ensures)) (e .before .if1 .left))

@@ -1,22 +1,23 @@
 -- A line that says a call has at most 138 bytes: its texts are fixed, and a number below its limit has at most so many figures.
 use Prim.Native.Nat.{ℕ, suc, _+_, _-_, _*_, _^_, _≤_, _<_}
 use Prim.Native.String.{String}
-use mathlib.Core.Bool.{Bool, true, false, cond, _&&_}
+use mathlib.Core.Bool.{Bool, true, false, cond}
 use mathlib.Core.Logic.{⊎-elim}
 use mathlib.Core.List.{List, [], _∷_}
 use mathlib.Core.Option.{Option, none, some, Option·some-injective}
 use mathlib.Core.Path.{_≡_, refl, ap}
 use native.Mathlib.Nat.{pow-suc, pow-le-pow-right}
 use native.Mathlib.Omega.{arith}
-use lib.Dec.{eqb, ltb}
-use lib.ListN.{length, drop, length-drop}
-use borrow.Author.Tests.{leb-true, ltb-true, eqb-false, not-true}
+use lib.Dec.{eqb}
+use lib.ListN.{length, length-drop}
+use borrow.Author.Tests.{leb-true, eqb-false, not-true}
 use Rattle.model.proofs.Parts.{lt-or-ge}
 use Rattle.model.specs.Geometry.{between}
 use Rattle.model.specs.Text.{text, past, leading, isPlain, numberFrom, Figure, figure}
 use Rattle.model.specs.Calls.{Call}
 use Rattle.model.specs.Session.{then, orElse, numberPast, atEnd, ending, wide, narrow, putLine, getLine, delLine, flushLine, formatLine, callOf}
 use Rattle.model.proofs.Tests.{both-true}
+use Rattle.model.proofs.Numbers.{figure-read}
 
 -- ---- figures behind a number n of more than j figures
 more-figures : (ds : List ℕ) (n j k : ℕ) → 10 ^ j ≤ n → numberFrom n ds < 10 ^ k → length ds + j < k
@@ -54,16 +55,9 @@ past-length (b ∷ t) (x ∷ xs) ys e = go (eqb x b) (past-length t xs ys) e
 
 module _ (limit k : ℕ) (p : 0 < k) (most : limit ≤ 10 ^ k) (xs : List ℕ) where
   figure-length : (f : Figure) → figure limit xs ≡ some f → length xs ≤ k + length (f .rest)
-  unfolding figure
-  figure-length f e = go (isPlain (leading xs)) (ltb (numberFrom 0 (leading xs)) limit) refl refl e
-    where
-      go : (a b : Bool) → isPlain (leading xs) ≡ a → ltb (numberFrom 0 (leading xs)) limit ≡ b → cond (a && b) (some (record { value = numberFrom 0 (leading xs); rest = drop (length (leading xs)) xs })) none ≡ some f → length xs ≤ k + length (f .rest)
-      go true true s l e =
-          let rest : drop (length (leading xs)) xs ≡ f .rest = ap (λ (g : Figure). g .rest) (Option·some-injective _ _ e) in
-          let below : numberFrom 0 (leading xs) < limit = ltb-true _ _ l in
-          omega (arith, most-figures xs k p s (omega arith), simp length-drop at (ap length rest))
-      go true false s l e = let z : _≡_ {A = ℕ} 0 1 = cc in omega arith
-      go false b s l e = let z : _≡_ {A = ℕ} 0 1 = cc in omega arith
+  figure-length f e =
+      let r = figure-read limit xs f e in
+      omega (arith, most-figures xs k p (r .plain) (omega (arith, r .value, r .below)), simp length-drop at (ap length (r .rest)))
 
 -- ---- what says a call has at most n bytes
 abbrev AtMost : ℕ → List ℕ → Option Call → Type 0

@@ -8,10 +8,10 @@ use native.Mathlib.Omega.{arith}
 use lib.ListN.{length}
 use lib.Seq.{drop-append-seam}
 use borrow.Author.Tests.{le-leb, ne-eqb}
 use Rattle.model.specs.Geometry.{between}
 use Rattle.model.specs.Text.{decimal, leading, isPlain, numberFrom, figure}
-use Rattle.figures.proofs.Reading.{figure-is}
-use Rattle.printer.proofs.Decimals.{figures-one, by-figures}
+use Rattle.model.proofs.Numbers.{figure-is}
+use Rattle.model.proofs.Decimals.{figures-one, by-figures}
 
 -- ---- all of them figures
 abbrev All : List ℕ → Type 0
