@@ -7,12 +7,14 @@ use mathlib.Core.Option.{none, some}
 use native.Mathlib.Omega.{arith}
 use lib.ListN.{length}
 use Rattle.model.specs.declared.Geometry.{Geometry}
+use Rattle.model.specs.Bytes.{within}
+use Rattle.model.specs.Search.{firstFrom}
 use Rattle.model.specs.Geometry.{allowed, listAt, listSize, bufferAt, stride}
 use Rattle.model.specs.Keys.{partitionOf, pageOf}
 use Rattle.model.specs.Page.{stored, without, emptied}
 use Rattle.model.specs.DeleteList.{listedAt, struck, enlisted, expired}
 use Rattle.model.specs.Filter.{isSet, filterFor}
-use Rattle.model.specs.Partition.{headOf, listedHead, unlistedHead, flushesOf, listedOf, listOf, bufferOf, slot, slotBits}
+use Rattle.model.specs.Partition.{Head, headOf, withHead, listedHead, unlistedHead, flushesOf, listedOf, listOf, bufferOf, slot, slotBits}
 use Rattle.model.specs.Flush.{filtered, delisted, headAfter, flushed}
 use Rattle.model.specs.Put.{due, unlisted, buffered, putIn}
 use Rattle.model.specs.Del.{isListed, stampFor, unbuffered, listedWith, deleted}
@@ -68,11 +70,20 @@ module _ (g : Geometry) (ok : allowed g ≡ true) (p : List ℕ) (long : length 
     unfolding flushed
     laid-flushed t more = laid-head g ok (laid-emptied g ok t laid-prepared page-long) _ (words-after g p words more)
 
--- a key that is not listed stays so, and a listed one makes a del do nothing
+-- a key that is not listed stays so, a listed one leaves the list with a put, and makes a del do nothing
 module _ (g : Geometry) (k : ℕ) (p : List ℕ) where
+  pub was-listed : (i n : ℕ) (h : Head) (p′ p″ : List ℕ) → listedAt (listedOf p) k (listOf g p) ≡ some i → n ≡ listedOf p → p′ ≡ within listAt (listSize g) (struck i n) p
+      → h ≡ unlistedHead 1 (headOf p) → p″ ≡ withHead h p′ → p″ ≡ unlisted g k p
+  unfolding unlisted
+  was-listed i n h p′ p″ e en e′ eh e″ = rw (e″, eh, e′, en, e)
+
   pub not-listed : listedAt (listedOf p) k (listOf g p) ≡ none → unlisted g k p ≡ p
   unfolding unlisted
   not-listed e = rw e
+
+  pub none-listed : listedOf p ≡ 0 → unlisted g k p ≡ p
+  unfolding firstFrom
+  none-listed e = not-listed (rw e)
 
   pub deleted-listed : isListed g k p ≡ true → deleted g k p ≡ p
   unfolding deleted

@@ -74,15 +74,18 @@ pub fn decide(part: &[u8], g: Geometry, key: u64) -> Plan
     Plan::Flush
 }
 
-// The key's first list entry leaves, if it has one.
+// The key's first list entry leaves, if it has one. Most lists are empty, and only one that is not is searched.
 fn unlist(part: &mut [u8], g: Geometry, key: u64)
     requires { ⌜ Whole g (now part) ⌝ }
     requires { ⌜ headOverfull g (headOf (now part)) ≡ false ⌝ }
     ensures { λ _. ⌜ now (part .exit) ≡ unlisted g key (now (part .entry)) ⌝ }
 {
+    let head = Head::read(part);
+    if head.listed == 0 {
+        return;
+    }
     match list::find(part, g, key) {
         Found::At(i) => {
-            let head = Head::read(part);
             list::strike(part, g, i, head.listed as usize);
             head::put_back(part, head.unlisted(1));
         }
