@@ -2,7 +2,7 @@
 use Prim.Native.Nat.{ℕ, _<_, _^_}
 use mathlib.Core.List.{List}
 use mathlib.Core.Option.{none}
-use mathlib.Core.Path.{_≡_, sym, _∙_, ap}
+use mathlib.Core.Path.{_≡_, refl, sym, _∙_, ap}
 use Rattle.model.specs.declared.Geometry.{Geometry}
 use Rattle.model.specs.Answers.{done}
 use Rattle.model.specs.Bytes.{within}
@@ -40,7 +40,7 @@ module _ (g : Geometry) (m f : List ℕ) (table : IsTable g m f) (k : ℕ) where
   deletes : (m′ : List ℕ) → delChecks g k own ≡ none → m′ ≡ within (partitionAt g (partitionOf g k)) (stride g) (deleted g k) m → Performs (Call.del k) m f (done 0) m′ f
   deletes m′ h e =
       performing.doing (Call.del k) m f 0 m′ f (checked ∙ h) (result-del (areas m f) k)
-      (effect-del (areas m f) g (table .own) k ∙ ap (λ (x : List ℕ). areas x f) (sym e))
+      (effect-del (areas m f) g (table .own) k) e refl
 
   pub refuses : (r : Refusal) → planFor g k own ≡ Plan.Refused r → Performs (Call.del k) m f (refusing r) m f
   refuses r h = performing.refusing (Call.del k) m f (asRefusal r) (checked ∙ meant (Plan.Refused r) h)

@@ -143,14 +143,15 @@ withPages-ext g page page′ (suc q) f h = rw (h q (omega arith), withPages-ext 
 -- ---- what a turn of the loops over entries and pages does to their invariants, for a filter `at` in front of what is read
 module _ (g : Geometry) (at : ℕ) (s s₀ : List ℕ) where
   -- one more entry of the page from a on
-  pub entry-added : (a i : ℕ) → at + filterSize g ≤ a → a + g .page ≤ length s₀ → 16 * (i + 1) + 8 ≤ g .page → s ≡ within at (filterSize g) (withEntries g (mid a (g .page) s₀) i) s₀ → within at (filterSize g) (withBits g (mixed (word 8 s (a + 16 * (i + 1)))) (g .hashes)) s ≡ within at (filterSize g) (withEntries g (mid a (g .page) s₀) (i + 1)) s₀
+  pub entry-added : (a i : ℕ) → at + filterSize g ≤ a → a + g .page ≤ length s₀ → 16 * (i + 1) + 8 ≤ g .page → s ≡ within at (filterSize g) (withEntries g (mid a (g .page) s₀) i) s₀
+      → {key x : ℕ} {s′ : List ℕ} → key ≡ word 8 s (a + 16 * (i + 1)) → x ≡ mixed key → s′ ≡ within at (filterSize g) (withBits g x (g .hashes)) s → s′ ≡ within at (filterSize g) (withEntries g (mid a (g .page) s₀) (i + 1)) s₀
   unfolding withEntries
-  entry-added a i h k r e =
+  entry-added a i h k r e ek ex e′ =
       let n = filterSize g in
       let p = mid a (g .page) s₀ in
-      let key : word 8 s (a + 16 * (i + 1)) ≡ word 8 p (16 * (i + 1)) = rw e (word-within-out 8 at n (withEntries g p i) s₀ (a + 16 * (i + 1)) (omega arith)) ∙ sym (word-mid 8 s₀ a (g .page) (16 * (i + 1)) r) in
+      let same : word 8 s (a + 16 * (i + 1)) ≡ word 8 p (16 * (i + 1)) = rw e (word-within-out 8 at n (withEntries g p i) s₀ (a + 16 * (i + 1)) (omega arith)) ∙ sym (word-mid 8 s₀ a (g .page) (16 * (i + 1)) r) in
       let l = length-withEntries g p i (mid at n s₀) ∙ length-mid at n s₀ (omega arith) in
-      rw (key, e)
+      e′ ∙ rw (ex, ek, same, e)
       (within-twice at n (withEntries g p i) (withBits g (mixed (word 8 p (16 * (i + 1)))) (g .hashes)) s₀ (omega arith) l (length-withBits g (mixed (word 8 p (16 * (i + 1)))) (g .hashes) (withEntries g p i (mid at n s₀)) ∙ l)
       ∙ ap (λ (m : ℕ). within at n (withEntries g p m) s₀) (sym (add-one i)))
 
@@ -159,14 +160,15 @@ module _ (g : Geometry) (at : ℕ) (s s₀ : List ℕ) where
   buffer-kept f q h k e = rw e (mid-within-out at (filterSize g) f s₀ (bufferAt g q) (g .page) k (omega arith))
 
   -- one more page of the buffer
-  pub page-added : (q : ℕ) → at + filterSize g ≤ bufferAt g q → bufferAt g q + g .page ≤ length s₀ → s ≡ within at (filterSize g) (withPages g (bufferOf g s₀) q) s₀ → within at (filterSize g) (withEntries g (bufferOf g s q) (countOf (bufferOf g s q))) s ≡ within at (filterSize g) (withPages g (bufferOf g s₀) (q + 1)) s₀
+  pub page-added : (q : ℕ) → at + filterSize g ≤ bufferAt g q → bufferAt g q + g .page ≤ length s₀ → s ≡ within at (filterSize g) (withPages g (bufferOf g s₀) q) s₀
+      → {b : ℕ} {s′ : List ℕ} → b ≡ bufferAt g q → s′ ≡ within at (filterSize g) (withEntries g (mid b (g .page) s) (countOf (mid b (g .page) s))) s → s′ ≡ within at (filterSize g) (withPages g (bufferOf g s₀) (q + 1)) s₀
   unfolding withPages
-  page-added q h k e =
+  page-added q h k e eb e′ =
       let n = filterSize g in
       let p = bufferOf g s₀ q in
       let f = withPages g (bufferOf g s₀) q in
       let l = length-withPages g (bufferOf g s₀) q (mid at n s₀) ∙ length-mid at n s₀ (omega arith) in
-      rw (buffer-kept f q h k e, e, add-one)
+      e′ ∙ rw (eb, buffer-kept f q h k e, e, add-one)
       (within-twice at n f (withEntries g p (countOf p)) s₀ (omega arith) l (length-withEntries g p (countOf p) (f (mid at n s₀)) ∙ l))
 
   -- all pages, in a filter that was made zero

@@ -171,6 +171,9 @@ module _ (g : Geometry) (t : ℕ) (p : List ℕ) where
   unfolding emptiedPages
   emptied-next q = rw add-one
 
+  pub emptied-turn : (q : ℕ) {part part′ : List ℕ} → part ≡ emptiedPages g t q p → part′ ≡ within (bufferAt g q) (g .page) (emptied q t) part → part′ ≡ emptiedPages g t (q + 1) p
+  emptied-turn q was e = e ∙ rw was (sym (emptied-next q))
+
   -- pages that are not emptied yet
   pub not-emptied : length p ≡ stride g → (n q : ℕ) → n ≤ q → q < g .pages → bufferOf g (emptiedPages g t n p) q ≡ bufferOf g p q
   unfolding emptiedPages

@@ -103,6 +103,10 @@ pub length-within : (a n : ℕ) (f : List ℕ → List ℕ) (xs : List ℕ) → 
 unfolding within
 length-within a n f xs = length-sets xs a (take n (f (mid a n xs)))
 
+-- as long as what was changed
+pub still-long : (a n : ℕ) (f : List ℕ → List ℕ) (xs : List ℕ) {ys : List ℕ} {m : ℕ} → ys ≡ within a n f xs → length xs ≡ m → length ys ≡ m
+still-long a n f xs e l = ap length e ∙ length-within a n f xs ∙ l
+
 pub getD-within-out : (a n : ℕ) (f : List ℕ → List ℕ) (xs : List ℕ) (i : ℕ) → (a ≤ i → i < a + n → ⊥) → getD (within a n f xs) i 0 ≡ getD xs i 0
 unfolding within
 getD-within-out a n f xs i h = getD-sets-out (take n (f (mid a n xs))) xs a i (λ p q. h p (omega (arith, short n (f (mid a n xs)))))

@@ -73,7 +73,10 @@ and-power = bin-ind (λ (n : ℕ). 0 < n → bitAnd n (n - 1) ≡ 0 → (k : ℕ
         let h : (n - 1) / 2 ≡ n / 2 - 1 = omega arith in
         let s = rw h at (and-step n (n - 1)) in
         let w = more (omega arith) (omega arith) in
-        (suc (w .0), rw pow-suc (omega arith))
+        (suc (w .0), twice (w .0) (w .1))
+      where
+        twice : (k : ℕ) → n / 2 ≡ 2 ^ k → n ≡ 2 ^ suc k
+        twice k e′ = rw (pow-suc 2 k) (omega arith)
 
     odd : (n : ℕ) → bitAnd n (n - 1) ≡ 0 → 1 ≤ n % 2 → (k : ℕ) × (n ≡ 2 ^ k)
     odd n e o =

@@ -2,7 +2,7 @@
 use Prim.Native.Nat.{ℕ, _+_, _≤_, _<_, _^_}
 use mathlib.Core.Bool.{true, false}
 use mathlib.Core.List.{List}
-use mathlib.Core.Path.{_≡_, sym, _∙_, ap, ap₂}
+use mathlib.Core.Path.{_≡_, refl, sym, _∙_, ap}
 use native.Mathlib.Omega.{arith}
 use lib.ListN.{length, getD}
 use Rattle.model.specs.declared.Geometry.{Geometry}
@@ -81,8 +81,8 @@ module _ (g : Geometry) (m f : List ℕ) (table : IsTable g m f) (k : ℕ) where
       let w = meant Store h in
       performing.doing (Call.put k v) m f 0 m′ f (checked v ∙ w .0)
       (result-put (areas m f) g (table .own) k v false (w .1))
-      (effect-put (areas m f) g (table .own) k v false (w .1)
-      ∙ ap (λ (x : List ℕ). areas x f) (within-same _ _ (putIn g k v) (stores-in v) m (put-kept g k own v (w .1)) ∙ sym e))
+      (effect-put (areas m f) g (table .own) k v false (w .1))
+      (e ∙ sym (within-same _ _ (putIn g k v) (stores-in v) m (put-kept g k own v (w .1)))) refl
 
   -- ---- the key's partition lies in memory, and is flushed there
   module _ (key : k < 2 ^ 64) where
@@ -116,4 +116,4 @@ module _ (g : Geometry) (m f : List ℕ) (table : IsTable g m f) (k : ℕ) where
         ∙ ap (within at (stride g) (stores-in v)) (sym e) ∙ sym e′ in
         performing.doing (Call.put k v) m f (g .pages) m′ f′ (checked v ∙ w .0)
         (result-put (areas m f) g (table .own) k v true (w .1))
-        (effect-put (areas m f) g (table .own) k v true (w .1) ∙ ap₂ areas both (sym ef))
+        (effect-put (areas m f) g (table .own) k v true (w .1)) (sym both) ef

@@ -6,8 +6,8 @@ use Prim.Native.Nat.{ℕ, _-_, _≤_}
 use mathlib.Core.Path.{_≡_, refl, sym, _∙_, ap}
 use lib.ListN.{length}
 use Rattle.model.specs.Format.{emptiedPages}
-use Rattle.model.proofs.Parts.{length-within}
-use Rattle.model.proofs.Partitions.{emptied-none, emptied-next}
+use Rattle.model.proofs.Parts.{still-long}
+use Rattle.model.proofs.Partitions.{emptied-none, emptied-turn}
 
 abbrev Inv-loop : tie.InvT-loop
 Inv-loop part₀ g t pages q₀ part q = (q ≤ pages) × (length part ≡ length part₀) × (part ≡ emptiedPages g t q part₀)
@@ -27,7 +27,7 @@ loop-again : tie.Need-loop-again Inv-loop μ-loop
 loop-again c =
     let l = c .before .before .before .before .before .loop in
     let e = c .before .before .empty-page .ensures in
-    (omega arith, ap length e ∙ length-within _ _ _ _ ∙ l .inv .1, e ∙ rw (l .inv .2) (sym (emptied-next _ _ _ (l .q))))
+    (omega arith, still-long _ _ _ _ e (l .inv .1), emptied-turn _ _ _ (l .q) (l .inv .2) e)
 
 same-length : tie.Need-same-length Inv-loop μ-loop
 same-length c = c .before .loop .inv .1

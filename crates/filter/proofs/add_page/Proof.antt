@@ -46,7 +46,7 @@ loop-again : tie.Need-loop-again Inv-loop μ-loop
 loop-again c =
     let p = start (c .before .before .before .before .before .before .before) .pre in
     let l = c .before .before .before .before .before .before .before .before .loop in
-    (omega arith, l .inv .1, omega arith, c .before .before .add-key .ensures ∙ rw (c .before .before .before .mix .ensures, c .before .before .before .before .before .u64-at .ensures) (entry-added _ _ _ _ _ _ (p .1 .0) (p .1 .1 .0) (room (c .before .before .before .before .before .before .before)) (l .inv .3)))
+    (omega arith, l .inv .1, omega arith, entry-added _ _ _ _ _ _ (p .1 .0) (p .1 .1 .0) (room (c .before .before .before .before .before .before .before)) (l .inv .3) (c .before .before .before .before .before .u64-at .ensures) (c .before .before .before .mix .ensures) (c .before .before .add-key .ensures))
 
 same-length : tie.Need-same-length Inv-loop μ-loop
 same-length c = c .before .loop .inv .2

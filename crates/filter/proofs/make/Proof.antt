@@ -46,7 +46,7 @@ loop-again : tie.Need-loop-again Inv-loop μ-loop
 loop-again c =
     let r = room (c .before .before .before .before .before) in
     let l = c .before .before .before .before .before .before .loop in
-    (omega arith, omega arith, c .before .before .add-page .ensures ∙ rw (c .before .before .before .buffer-at .ensures) (page-added _ _ _ _ (l .q) (r .0) (omega arith) (l .inv .2)))
+    (omega arith, omega arith, page-added _ _ _ _ (l .q) (r .0) (omega arith) (l .inv .2) (c .before .before .before .buffer-at .ensures) (c .before .before .add-page .ensures))
 
 add-page-requires : tie.Need-add-page-requires Inv-loop μ-loop
 add-page-requires c κs =

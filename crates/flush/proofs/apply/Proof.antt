@@ -1,21 +1,19 @@
 -- The steps are those of `flushed`, in its order. The new filter lies behind the list, so the entries that expire are those of the partition as it was; filter and list lie in front of the buffer, so the batch is that of the partition as it was.
 use Prim.Native.Nat.{_≤_, _<_}
-use mathlib.Core.Path.{_≡_, _∙_, ap, ap₂}
+use mathlib.Core.Path.{_≡_, _∙_, ap}
 use native.Mathlib.Omega.{arith}
 use borrow.Author.Needs.{needs}
 use Rattle.model.specs.DeleteList.{unexpired}
-use Rattle.model.specs.Partition.{Head, unlistedHead, withHead, flushesOf, listedOf, listOf}
+use Rattle.model.specs.Partition.{Head, unlistedHead, flushesOf, listedOf, listOf}
 use Rattle.model.specs.Refusals.{lastFlush}
-use Rattle.model.specs.Format.{emptiedPages}
-use Rattle.model.specs.Flush.{filtered, delisted, headAfter, flushed}
+use Rattle.model.specs.Flush.{filtered, delisted, headAfter}
 use Rattle.model.proofs.Sizes.{sizes, slot-lt}
 use Rattle.model.proofs.Heads.{head-fits, head-after}
 use Rattle.model.proofs.Checks.{pages-fit}
-use Rattle.model.proofs.PartitionsFlash.{batch-same}
 use Rattle.head.specs.Heads.{asHead}
 use Rattle.head.proofs.Fields.{flushes-is, listed-is}
 use Rattle.partition.proofs.Inside.{list-inside}
-use Rattle.flush.proofs.Preparing.{stay-at-most, filter-made, list-shortened, stay-as-were, same-head, same-buffer}
+use Rattle.flush.proofs.Preparing.{stay-at-most, filter-made, list-shortened, stay-as-were, same-head, same-batch, all-flushed}
 use Rattle.flush.proofs.apply.Statement.{statement}
 use Rattle.flush.proofs.apply.Tie as tie
 
@@ -48,7 +46,7 @@ make-requires c κs =
 
 -- ---- the partition with its new filter, and the list without what expires
 made : (c : tie.After-make) → let a = start (read-at c) .args in c .make .last .0 ≡ filtered (a .g) (a .part .now)
-made c = c .make .ensures ∙ filter-made _ _ (c .before .slot-of .ensures) (flushes-is (read-at c .read .ensures))
+made c = filter-made _ _ (c .before .slot-of .ensures) (flushes-is (read-at c .read .ensures)) (c .make .ensures)
 
 expire-requires : tie.Need-expire-requires
 expire-requires c κs =
@@ -58,7 +56,7 @@ expire-requires c κs =
 stay : (c : tie.After-expire) → let a = start (read-at (made-at c)) .args in c .expire .result ≡ unexpired (a .g .kept) (flushesOf (a .part .now)) (listedOf (a .part .now)) (listOf (a .g) (a .part .now))
 stay c =
     let r = read-at (made-at c) in
-    c .expire .ensures .1 ∙ stay-as-were _ _ (made (made-at c)) (flushes-is (r .read .ensures)) (listed-is (r .read .ensures)) (start r .pre .0)
+    stay-as-were _ _ (made (made-at c)) (flushes-is (r .read .ensures)) (listed-is (r .read .ensures)) (start r .pre .0) (c .expire .ensures .1)
 
 stay-le : (c : tie.After-expire) → c .expire .result ≤ read-at (made-at c) .read .result .listed
 stay-le c = stay-at-most _ _ _ _ (c .expire .ensures .1)
@@ -66,7 +64,7 @@ stay-le c = stay-at-most _ _ _ _ (c .expire .ensures .1)
 shorter : (c : tie.After-expire) → let a = start (read-at (made-at c)) .args in c .expire .last .0 ≡ delisted (a .g) (flushesOf (a .part .now)) (listedOf (a .part .now)) (filtered (a .g) (a .part .now))
 shorter c =
     let r = read-at (made-at c) in
-    c .expire .ensures .0 ∙ list-shortened _ _ (made (made-at c)) (flushes-is (r .read .ensures)) (listed-is (r .read .ensures))
+    list-shortened _ _ (made (made-at c)) (flushes-is (r .read .ensures)) (listed-is (r .read .ensures)) (c .expire .ensures .0)
 
 -- the head is as it was
 number-kept : (c : tie.After-expire) → flushesOf (c .expire .last .0) ≡ flushesOf (start (read-at (made-at c)) .args .part .now)
@@ -99,15 +97,13 @@ head-made c =
     c .unlisted .ensures ∙ ap (unlistedHead _) (c .before .flushed .ensures) ∙ head-after _ _ (r .read .ensures) (stay x) (omega (arith, listed-is (r .read .ensures)))
 
 returns : tie.Need-returns
-unfolding flushed
 returns c =
     let m = moved-at (c .before .before .before .before) in
     let x = expired-at m in
     let s = start (read-at (made-at x)) in
-    let a = s .args in
     let b = m .move-batch .ensures in (
-      c .before .before .put-back .ensures ∙ ap₂ withHead (head-made (c .before .before .before)) (b .0 ∙ ap (emptiedPages (a .g) (a .t) (a .g .pages)) (shorter x)),
-      b .1 ∙ batch-same _ _ _ (a .flash .now) _ (number-kept x) (same-buffer _ _ (s .pre .0) (shorter x)) (a .g .pages) (omega arith),
+      all-flushed _ _ (s .pre .0) (shorter x) _ (b .0) (head-made (c .before .before .before)) (c .before .before .put-back .ensures),
+      same-batch _ _ (s .pre .0) (shorter x) _ _ (b .1),
     )
 
 pub apply-spec : {M : Type 1} → statement M

@@ -1,5 +1,4 @@
 -- The partition is lent as a part of memory, and comes back flushed.
-use mathlib.Core.Path.{_∙_}
 use native.Mathlib.Omega.{arith}
 use borrow.Author.Needs.{needs}
 use Rattle.model.specs.Flush.{flushed}
@@ -22,7 +21,7 @@ returns c =
     let l = lent (c .before .before .before .before .before .before .before) in
     let a = c .before .before .before .before .before .before .before .before .before .before .before .args in
     let r = c .before .before .before .before .apply .ensures in
-    (l .back (flushed (a .g) (a .t)) (length-flushed (a .g) (a .t)) _ (r .0), r .1 ∙ rw (l .own))
+    (l .back (flushed (a .g) (a .t)) (length-flushed (a .g) (a .t)) _ (r .0), rw (l .own) at (r .1))
 
 pub apply-at-spec : {M : Type 1} → statement M
 apply-at-spec = tie.close (tie.spec (λ c κs. search needs) (λ c κs. search needs) (λ c. omega (arith, lent c .inside)) (λ c. search needs) (λ c. search needs) (λ c. omega (arith, lent c .inside)) apply-requires (λ c. search needs) (λ c. search needs) returns)

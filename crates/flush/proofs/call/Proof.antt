@@ -1,7 +1,7 @@
 -- Each answer is that of the definitions on an opened table; what the checks leave possible, the flush does as they say.
 use Prim.Native.Nat.{_<_}
 use mathlib.Core.Option.{none}
-use mathlib.Core.Path.{_≡_, sym, _∙_, ap, ap₂}
+use mathlib.Core.Path.{_≡_, sym, _∙_, ap}
 use native.Mathlib.Omega.{arith}
 use borrow.Author.Needs.{needs}
 use Rattle.model.specs.Geometry.{partitions}
@@ -10,7 +10,6 @@ use Rattle.model.specs.Flush.{flushChecks}
 use Rattle.model.proofs.Checks.{flush-4, flush-accepted}
 use Rattle.model.proofs.Calls.{checks-flush, result-flush, effect-flush}
 use Rattle.answers.specs.Told.{verdict}
-use Rattle.answers.specs.Performs.{areas}
 use Rattle.answers.proofs.Performing.{refusing, doing}
 use Rattle.partition.proofs.Lending.{partition-whole, partition-words}
 use Rattle.partition.proofs.Flushing.{flushable}
@@ -60,7 +59,7 @@ returns-3 c =
     let e = c .before .before .before .before .before .before .before in
     let s = start (counted (e .before .before)) in
     let r = c .before .before .before .before .apply-at .ensures in
-    doing _ _ _ _ _ _ (checks-flush _ _ (s .pre .own) (s .pre .opens) _ ∙ accepted e) (result-flush _ _ (s .pre .own) _) (effect-flush _ _ (s .pre .own) _ ∙ sym (ap₂ areas (r .0) (r .1)))
+    doing _ _ _ _ _ _ (checks-flush _ _ (s .pre .own) (s .pre .opens) _ ∙ accepted e) (result-flush _ _ (s .pre .own) _) (effect-flush _ _ (s .pre .own) _) (r .0) (r .1)
 
 pub call-spec : {M : Type 1} → statement M
 call-spec = tie.close (tie.spec (λ c κs. search needs) returns (λ c κs. search needs) decide-requires (λ c. search needs) (λ c. search needs) apply-at-requires (λ c. search needs) returns-2 (λ c. search needs) (λ c. search needs) returns-3)

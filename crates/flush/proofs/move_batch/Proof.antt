@@ -6,13 +6,14 @@ use lib.ListN.{length}
 use Rattle.model.specs.Format.{emptiedPages}
 use Rattle.model.specs.Flush.{withBatch}
 use Rattle.model.specs.Partition.{flushesOf}
-use Rattle.model.proofs.Parts.{length-within}
+use Rattle.model.proofs.Parts.{still-long}
+use Rattle.model.proofs.Lengths.{length-withBatch}
 use Rattle.model.proofs.Sizes.{sizes, slot-lt, slot-page-fits}
-use Rattle.model.proofs.Partitions.{emptied-none}
+use Rattle.model.proofs.Partitions.{emptied-none, emptied-turn}
 use Rattle.model.proofs.PartitionsFlash.{batch-none}
 use Rattle.head.proofs.Fields.{flushes-is}
 use Rattle.partition.proofs.Inside.{list-inside, page-inside}
-use Rattle.flush.proofs.Moving.{emptied-turn, batch-turn}
+use Rattle.flush.proofs.Moving.{batch-turn}
 use Rattle.flush.proofs.move_batch.Statement.{statement}
 use Rattle.flush.proofs.move_batch.Tie as tie
 
@@ -78,12 +79,12 @@ loop-again c =
     let j = slotted i in
     let l = i .before .loop in
     let p = c .before .before .empty-page .ensures in
-    let f = copied c .copy-numbered .ensures in (
+    let f = batch-turn _ _ _ _ _ (l .inv .3) (start j .pre .0 .long) (in-pages i) (number j) refl (j .slot-of .ensures) (copied c .before .before .before .before .slot-page-at .ensures) (copied c .before .before .before .buffer-at .ensures) (l .inv .4) (copied c .copy-numbered .ensures) in (
       omega arith,
-      ap length p ∙ length-within _ _ _ _ ∙ l .inv .1,
-      ap length f ∙ length-within _ _ _ _ ∙ l .inv .2,
-      p ∙ emptied-turn _ _ _ (start j .args .flash .now) _ (l .inv .3),
-      f ∙ batch-turn _ _ _ _ _ (l .inv .3) (start j .pre .0 .long) (in-pages i) (number j) refl (j .slot-of .ensures) (copied c .before .before .before .before .slot-page-at .ensures) (copied c .before .before .before .buffer-at .ensures) (l .inv .4),
+      still-long _ _ _ _ p (l .inv .1),
+      ap length f ∙ length-withBatch _ _ _ _ _,
+      emptied-turn _ _ _ _ (l .inv .3) p,
+      f,
     )
 
 returns : tie.Need-returns Inv-loop μ-loop

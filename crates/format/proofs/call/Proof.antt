@@ -1,6 +1,6 @@
 -- The checks are those of the definition, and what they leave possible is done as it says.
 use mathlib.Core.Option.{none}
-use mathlib.Core.Path.{_≡_, sym, _∙_, ap}
+use mathlib.Core.Path.{_≡_, refl, sym, _∙_, ap}
 use borrow.Author.Needs.{needs}
 use Rattle.model.specs.Format.{formatChecks}
 use Rattle.model.proofs.Checks.{format-accepted}
@@ -26,7 +26,7 @@ returns c = refusing _ _ _ _ (checks-format _ _ ∙ sym (c .before .before .befo
 
 returns-2 : tie.Need-returns-2
 returns-2 c =
-    doing _ _ _ 0 _ _ (checks-format _ _ ∙ accepted (c .before .before .before .before)) (result-format _ _) (effect-format _ _ ∙ sym (ap (λ x. areas x (start (c .before .before .before .before .before .before) .args .flash .now)) (c .before .before .apply .ensures)))
+    doing _ _ _ 0 _ _ (checks-format _ _ ∙ accepted (c .before .before .before .before)) (result-format _ _) (effect-format _ _) (c .before .before .apply .ensures) refl
 
 pub call-spec : {M : Type 1} → statement M
 call-spec = tie.close (tie.spec (λ c κs. search needs) (λ c. search needs) (λ c. search needs) apply-requires (λ c. search needs) returns (λ c. search needs) returns-2)

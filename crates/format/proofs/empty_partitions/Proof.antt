@@ -10,7 +10,7 @@ use lib.ListN.{length}
 use Rattle.model.specs.Bytes.{within}
 use Rattle.model.specs.Geometry.{partitions, stride, partitionAt}
 use Rattle.model.specs.Format.{emptiedPages, emptiedPartitions}
-use Rattle.model.proofs.Parts.{length-within}
+use Rattle.model.proofs.Parts.{still-long}
 use Rattle.model.proofs.Lengths.{length-emptiedPages}
 use Rattle.partition.proofs.Lending.{Lent, lends}
 
@@ -48,7 +48,7 @@ loop-again c =
     let f = emptiedPages (a .g) (l .t) (a .g .pages) in
     let e = lent b .back f (length-emptiedPages (a .g) (l .t) (a .g .pages)) _ (c .before .before .empty-pages .ensures) in
     let e′ : within (partitionAt (a .g) (l .t)) (stride (a .g)) f (l .memory) ≡ emptiedPartitions (a .g) (l .t + 1) (a .memory .now) = rw (l .inv .2, add-one (l .t)) in
-    (omega arith, ap length e ∙ length-within _ _ f (l .memory) ∙ l .inv .1, e ∙ e′)
+    (omega arith, still-long _ _ f (l .memory) e (l .inv .1), e ∙ e′)
 
 same-length : tie.Need-same-length Inv-loop μ-loop
 same-length c = c .before .loop .inv .1

@@ -33,7 +33,7 @@ lookup-requires c κs = (whole (c .before .before), (sym (c .before .is-key-over
 returns-2 : tie.Need-returns-2
 returns-2 c =
     let w = c .before .before .before .before .before .before .pre in
-    looking _ _ _ _ (checks-get _ _ (w .own) (w .opens) _ ∙ get-passes _ _ _ (tested (c .before .before) ∙ c .before .if1 .left)) (result-get _ _ (w .own) _ ∙ sym (rw (c .before .before .before .part-of-key .ensures) at (c .lookup .ensures))) (effect-get _ _)
+    looking _ _ _ _ (checks-get _ _ (w .own) (w .opens) _ ∙ get-passes _ _ _ (tested (c .before .before) ∙ c .before .if1 .left)) (result-get _ _ (w .own) _) (rw (c .before .before .before .part-of-key .ensures) at (c .lookup .ensures)) (effect-get _ _)
 
 pub call-spec : {M : Type 1} → statement M
 call-spec = tie.close (tie.spec (λ c κs. search needs) (λ c κs. whole c) returns lookup-requires returns-2)

@@ -38,7 +38,7 @@ decide-requires c κs = let s = c .before .before .before .before .before .befor
 
 -- the checks are those of the partition
 decided : (c : tie.After-decide) → let a = c .before .before .before .before .before .before .before .before .args in viewChecks (a .g) (a .t) (a .q) (a .n) (partition (a .g) (a .t) (a .memory .now)) ≡ verdict (c .decide .result)
-decided c = let a = c .before .before .before .before .before .before .before .before .args in sym (c .decide .ensures ∙ ap (viewChecks (a .g) (a .t) (a .q) (a .n)) (c .before .part-of .ensures))
+decided c = let a = c .before .before .before .before .before .before .before .before .args in rw (← c .before .part-of .ensures) (sym (c .decide .ensures))
 
 locate-requires : tie.Need-locate-requires
 locate-requires c κs = let e = c .before .before .before .before in let w = e .before .before .before .before .before .before .pre in (w .fine, (w .flashFits, in-range e))
@@ -55,7 +55,7 @@ returns-4 c =
     let s = d .before .before .before .before .before .before .before .before in
     let w = s .pre in
     let l = in-range (d .before .before) in (
-      looking _ _ _ _ (checks-view _ _ (w .own) (w .opens) _ _ _ ∙ decided d ∙ ap verdict (c .before .enum-told .given .1)) (result-view _ _ (w .own) _ _ _ ∙ sym (c .locate .ensures)) (effect-view _ _ _ _),
+      looking _ _ _ _ (checks-view _ _ (w .own) (w .opens) _ _ _ ∙ decided d ∙ ap verdict (c .before .enum-told .given .1)) (result-view _ _ (w .own) _ _ _) (c .locate .ensures) (effect-view _ _ _ _),
       shown-inside _ _ _ _ (s .args .memory .now) _ (w .fine) (w .memoryFits) (w .flashFits) (l .0) (l .1) (c .locate .result) (c .locate .ensures),
     )
 
