@@ -2,7 +2,7 @@
 use Prim.Native.Nat.{ℕ, _+_, _-_, _^_, _≤_, _<_}
 use mathlib.Core.Bool.{true}
 use mathlib.Core.List.{List}
-use mathlib.Core.Path.{_≡_}
+use mathlib.Core.Path.{_≡_, sym, _∙_, ap}
 use native.Mathlib.Nat.{add-sub-cancel-left}
 use native.Mathlib.Omega.{arith}
 use lib.ListN.{length, getD}
@@ -49,6 +49,10 @@ module _ (g : Geometry) (m : List ℕ) (fine : allowed g ≡ true) (long : memor
 
   pub lends-key : (k : ℕ) → k < 2 ^ 64 → (a n : ℕ) → a ≡ partitionAt g (partitionOf g k) → n ≡ stride g → Lent g (partitionOf g k) m a n
   lends-key k l = lends (partitionOf g k) (partition-of-lt g fine k l)
+
+-- what was asked of a part is so of the partition that it is
+pub asked-of : {A : Type 0} (ask : List ℕ → A) {p p′ : List ℕ} {told : A} → told ≡ ask p → p ≡ p′ → ask p′ ≡ told
+asked-of ask e same = sym (e ∙ ap ask same)
 
 -- a partition's head is read from bytes of memory
 pub partition-words : (g : Geometry) (t : ℕ) (m : List ℕ) → ((i : ℕ) → getD m i 0 < 256) → HeadWords (headOf (partition g t m))

@@ -3,7 +3,7 @@ use mathlib.Core.Path.{refl, _∙_}
 use mathlib.Core.List.{List, [], _∷_, _++_, append-assoc}
 use Prim.Native.Nat.{ℕ, _+_, _/_, _%_, _^_, _≤_, _<_}
 use native.Mathlib.Omega.{arith}
-use lib.ListN.{length, set, length-append}
+use lib.ListN.{set, length-append}
 use Rattle.model.proofs.Parts.{sets-append}
 use Rattle.model.specs.Text.{decimal}
 use Rattle.printer.specs.Puts.{Puts}

@@ -1,10 +1,10 @@
 -- Each arm does what its plan says, and the plan is what the definitions decide.
-use mathlib.Core.Path.{_≡_, sym, _∙_, ap}
+use mathlib.Core.Path.{_≡_, _∙_}
 use native.Mathlib.Omega.{arith}
 use borrow.Author.Needs.{needs}
 use Rattle.model.specs.Keys.{partitionOf}
 use Rattle.model.specs.Partition.{partition}
-use Rattle.partition.proofs.Lending.{key-whole}
+use Rattle.partition.proofs.Lending.{key-whole, asked-of}
 use Rattle.del.specs.Plans.{planFor}
 use Rattle.del.proofs.Calling.{refuses, does-nothing, can-remove, removes}
 use Rattle.del.proofs.call.Statement.{statement}
@@ -15,7 +15,7 @@ decide-requires c κs = let s = c .before .before .before .before in rw (c .part
 
 -- the plan is for the key's partition
 decided : (c : tie.After-decide) → let a = c .before .before .before .before .before .args in planFor (a .g) (a .key) (partition (a .g) (partitionOf (a .g) (a .key)) (a .memory .now)) ≡ c .decide .result
-decided c = let a = c .before .before .before .before .before .args in sym (c .decide .ensures ∙ ap (planFor (a .g) (a .key)) (c .before .part-of-key .ensures))
+decided c = let a = c .before .before .before .before .before .args in asked-of (planFor (a .g) (a .key)) (c .decide .ensures) (c .before .part-of-key .ensures)
 
 apply-at-requires : tie.Need-apply-at-requires
 apply-at-requires c κs = let d = c .before .before .before .before in let s = d .before .before .before .before .before in (s .pre .fine, (s .pre .memoryFits, can-remove _ _ _ (s .pre) _ _ (decided d ∙ c .before .before .youngest .given .1)))

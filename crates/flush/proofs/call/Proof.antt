@@ -1,7 +1,7 @@
 -- Each answer is that of the definitions on an opened table; what the checks leave possible, the flush does as they say.
 use Prim.Native.Nat.{_<_}
 use mathlib.Core.Option.{none}
-use mathlib.Core.Path.{_≡_, sym, _∙_, ap}
+use mathlib.Core.Path.{_≡_, _∙_, ap}
 use native.Mathlib.Omega.{arith}
 use borrow.Author.Needs.{needs}
 use Rattle.model.specs.Geometry.{partitions}
@@ -11,7 +11,7 @@ use Rattle.model.proofs.Checks.{flush-4, flush-accepted}
 use Rattle.model.proofs.Calls.{checks-flush, result-flush, effect-flush}
 use Rattle.answers.specs.Told.{verdict}
 use Rattle.answers.proofs.Performing.{refusing, doing}
-use Rattle.partition.proofs.Lending.{partition-whole, partition-words}
+use Rattle.partition.proofs.Lending.{partition-whole, partition-words, asked-of}
 use Rattle.partition.proofs.Flushing.{flushable}
 use Rattle.flush.proofs.call.Statement.{statement}
 use Rattle.flush.proofs.call.Tie as tie
@@ -37,7 +37,7 @@ decide-requires c κs = let s = start (c .before .before .before) in rw (c .part
 
 -- ---- the checks are those of the partition
 decided : (c : tie.After-decide) → let a = start (counted c) .args in flushChecks (a .g) (a .t) (partition (a .g) (a .t) (a .memory .now)) ≡ verdict (c .decide .result)
-decided c = let a = start (counted c) .args in sym (c .decide .ensures ∙ ap (flushChecks (a .g) (a .t)) (c .before .part-of .ensures))
+decided c = let a = start (counted c) .args in asked-of (flushChecks (a .g) (a .t)) (c .decide .ensures) (c .before .part-of .ensures)
 
 accepted : (c : tie.After-enum-told) → let a = start (counted (c .before .before)) .args in flushChecks (a .g) (a .t) (partition (a .g) (a .t) (a .memory .now)) ≡ none
 accepted c = decided (c .before .before) ∙ ap verdict (c .enum-told .given .1)

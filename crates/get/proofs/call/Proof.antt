@@ -1,5 +1,5 @@
 -- The one refusal is the checks' own, and an accepted lookup changes nothing.
-use mathlib.Core.Path.{_≡_, sym, _∙_, ap}
+use mathlib.Core.Path.{_≡_, sym, _∙_}
 use native.Mathlib.Omega.{arith}
 use borrow.Author.Needs.{needs}
 use Rattle.model.specs.Answers.{unread}
@@ -10,7 +10,7 @@ use Rattle.model.proofs.Checks.{get-12, get-passes}
 use Rattle.model.proofs.Calls.{checks-get, result-get, effect-get}
 use Rattle.answers.proofs.Performing.{refusing, looking}
 use Rattle.partition.specs.Ready.{Whole}
-use Rattle.partition.proofs.Lending.{key-whole}
+use Rattle.partition.proofs.Lending.{key-whole, asked-of}
 use Rattle.get.proofs.call.Statement.{statement}
 use Rattle.get.proofs.call.Tie as tie
 
@@ -20,7 +20,7 @@ whole c = let s = c .before .before .before in rw (c .part-of-key .ensures) (key
 
 -- and the test is of it
 tested : (c : tie.After-is-key-overfull) → let a = c .before .before .before .before .args in keyOverfull (a .g) (a .key) (partition (a .g) (partitionOf (a .g) (a .key)) (a .memory .now)) ≡ c .is-key-overfull .result
-tested c = let a = c .before .before .before .before .args in sym (c .is-key-overfull .ensures ∙ ap (keyOverfull (a .g) (a .key)) (c .before .part-of-key .ensures))
+tested c = let a = c .before .before .before .before .args in asked-of (keyOverfull (a .g) (a .key)) (c .is-key-overfull .ensures) (c .before .part-of-key .ensures)
 
 returns : tie.Need-returns
 returns c =

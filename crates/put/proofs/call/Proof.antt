@@ -1,11 +1,12 @@
 -- Each arm does what its plan says, and the plan is what the definitions decide; behind the flush the key's page has room.
 use Prim.Native.Nat.{ℕ, _<_}
-use mathlib.Core.Path.{_≡_, sym, _∙_, ap}
+use mathlib.Core.Path.{_≡_, _∙_}
 use native.Mathlib.Omega.{arith}
 use lib.ListN.{getD}
 use borrow.Author.Needs.{needs}
 use Rattle.model.specs.Keys.{partitionOf}
 use Rattle.model.specs.Partition.{partition}
+use Rattle.partition.proofs.Lending.{asked-of}
 use Rattle.put.specs.declared.Plan.the-variants.{Flush}
 use Rattle.put.specs.Plans.{planFor}
 use Rattle.put.proofs.Calling.{whole, refuses, can-store, stores, can-flush, can-store-behind, flushes}
@@ -24,7 +25,7 @@ decide-requires : tie.Need-decide-requires
 decide-requires c κs = let s = c .before .before .before .before in rw (c .part-of-key .ensures) (whole _ _ _ (s .pre) _ (omega arith))
 
 decided : (c : tie.After-decide) → let a = start c .args in planFor (a .g) (a .key) (partition (a .g) (partitionOf (a .g) (a .key)) (a .memory .now)) ≡ c .decide .result
-decided c = let a = start c .args in sym (c .decide .ensures ∙ ap (planFor (a .g) (a .key)) (c .before .part-of-key .ensures))
+decided c = let a = start c .args in asked-of (planFor (a .g) (a .key)) (c .decide .ensures) (c .before .part-of-key .ensures)
 
 flush-first : (c : tie.After-enum-told2) → let a = start (c .before .before) .args in planFor (a .g) (a .key) (partition (a .g) (partitionOf (a .g) (a .key)) (a .memory .now)) ≡ Flush
 flush-first c = decided (c .before .before) ∙ c .enum-told2 .given .1

@@ -1,6 +1,6 @@
 -- Every refusal before flash is read is the checks' own, and what is shown lies where the definition says.
 use Prim.Native.Nat.{_≤_, _<_}
-use mathlib.Core.Path.{_≡_, sym, _∙_, ap}
+use mathlib.Core.Path.{_≡_, _∙_, ap}
 use native.Mathlib.Omega.{arith}
 use borrow.Author.Needs.{needs}
 use borrow.Author.Tests.{lt-ltb, le-ltb}
@@ -11,7 +11,7 @@ use Rattle.model.proofs.Checks.{view-4}
 use Rattle.model.proofs.Calls.{checks-view, result-view, effect-view}
 use Rattle.answers.specs.Told.{verdict}
 use Rattle.answers.proofs.Performing.{refusing, looking}
-use Rattle.partition.proofs.Lending.{partition-whole}
+use Rattle.partition.proofs.Lending.{partition-whole, asked-of}
 use Rattle.view.proofs.Showing.{shown-inside}
 use Rattle.view.proofs.call.Statement.{statement}
 use Rattle.view.proofs.call.Tie as tie
@@ -38,7 +38,7 @@ decide-requires c κs = let s = c .before .before .before .before .before .befor
 
 -- the checks are those of the partition
 decided : (c : tie.After-decide) → let a = c .before .before .before .before .before .before .before .before .args in viewChecks (a .g) (a .t) (a .q) (a .n) (partition (a .g) (a .t) (a .memory .now)) ≡ verdict (c .decide .result)
-decided c = let a = c .before .before .before .before .before .before .before .before .args in rw (← c .before .part-of .ensures) (sym (c .decide .ensures))
+decided c = let a = c .before .before .before .before .before .before .before .before .args in asked-of (viewChecks (a .g) (a .t) (a .q) (a .n)) (c .decide .ensures) (c .before .part-of .ensures)
 
 locate-requires : tie.Need-locate-requires
 locate-requires c κs = let e = c .before .before .before .before in let w = e .before .before .before .before .before .before .pre in (w .fine, (w .flashFits, in-range e))
