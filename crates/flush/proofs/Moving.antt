@@ -1,23 +1,18 @@
 -- One turn of the loop that moves the buffer to flash, in the loop's own numbers.
 use Prim.Native.Nat.{ℕ, _+_, _<_}
-use mathlib.Core.Bool.{true}
 use mathlib.Core.List.{List}
 use mathlib.Core.Path.{_≡_, sym, _∙_}
 use native.Mathlib.Omega.{arith}
 use lib.ListN.{length}
 use Rattle.model.specs.declared.Geometry.{Geometry}
 use Rattle.model.specs.Bytes.{mid, within}
-use Rattle.model.specs.Geometry.{allowed, stride, bufferAt, slotPageAt}
+use Rattle.model.specs.Geometry.{stride, bufferAt, slotPageAt}
 use Rattle.model.specs.Page.{numbered}
 use Rattle.model.specs.Partition.{flushesOf, slot}
 use Rattle.model.specs.Format.{emptiedPages}
 use Rattle.model.specs.Flush.{withBatch}
-use Rattle.model.proofs.Sizes.{slot-lt}
 use Rattle.model.proofs.Partitions.{not-emptied}
 use Rattle.model.proofs.PartitionsFlash.{batch-next}
-
-pub slot-below-kept : (g : Geometry) → allowed g ≡ true → {j : ℕ} (n : ℕ) → j ≡ slot g n → j < g .kept
-slot-below-kept g ok n e = rw e (slot-lt g ok n)
 
 module _ (g : Geometry) (t : ℕ) (p f : List ℕ) (q : ℕ) {part : List ℕ} (was : part ≡ emptiedPages g t q p) where
   -- page q is written with the batch's number, from where it is still as at the start

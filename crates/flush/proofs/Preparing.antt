@@ -1,4 +1,4 @@
--- What a flush does before it writes the batch: the slot's filter is made, and the list loses what expires. Both leave the head and the buffer as they were.
+-- What a flush does before it writes the batch: the slot's filter is made, and the list loses what expires. Both leave the head and the buffer as they were, so what follows writes the batch and leaves the partition as if from the start.
 use Prim.Native.Nat.{ℕ, _+_, _≤_, _<_}
 use mathlib.Core.List.{List}
 use mathlib.Core.Path.{_≡_, _∙_, ap, ap₂}

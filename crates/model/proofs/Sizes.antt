@@ -205,3 +205,6 @@ module _ (g : Geometry) (ok : allowed g ≡ true) where
 
   pub slot-lt : (n : ℕ) → slot g n < g .kept
   slot-lt n = mod-lt (n - 1) (sizes g ok .kept-min)
+
+  pub slot-is-lt : {j : ℕ} (n : ℕ) → j ≡ slot g n → j < g .kept
+  slot-is-lt n e = rw e (slot-lt n)

@@ -3,7 +3,7 @@ use Prim.Native.Nat.{_+_, _≤_}
 use mathlib.Core.Path.{_≡_, sym, _∙_, ap}
 use Rattle.model.specs.Partition.{live, slot, batchPasses, passingFrom}
 use Rattle.model.specs.Del.{youngest, stampFor}
-use Rattle.model.proofs.Sizes.{sizes, slot-lt}
+use Rattle.model.proofs.Sizes.{sizes, slot-is-lt}
 use Rattle.model.proofs.Heads.{head-fits}
 use Rattle.model.proofs.Passing.{passing-from, batch-asked, pass-take, pass-skip, pass-end}
 use Rattle.head.proofs.Fields.{flushes-is}
@@ -32,7 +32,7 @@ slotted : (c : tie.After-slot-before Inv-loop μ-loop) → c .slot-before .resul
 slotted c = c .slot-before .ensures (c .before .before .loop .n) (omega arith) (c .before .before .loop .inv .2)
 
 passes-requires : tie.Need-passes-requires Inv-loop μ-loop
-passes-requires c κs = let w = c .before .before .before .before .before .before .before .before .pre .0 in (w .fine, (omega (arith, slot-lt _ (w .fine) (c .before .before .loop .n), slotted c), w .long))
+passes-requires c κs = let w = c .before .before .before .before .before .before .before .before .pre .0 in (w .fine, (slot-is-lt _ (w .fine) _ (slotted c), w .long))
 
 -- what the test says
 tested : (c : tie.After-passes Inv-loop μ-loop) → let l = c .before .before .before in let a = l .before .before .before .before .before .before .args in c .passes .result ≡ batchPasses (a .g) (a .key) (a .part .now) (l .loop .n)

@@ -7,7 +7,7 @@ use Rattle.model.specs.DeleteList.{unexpired}
 use Rattle.model.specs.Partition.{Head, unlistedHead, flushesOf, listedOf, listOf}
 use Rattle.model.specs.Refusals.{lastFlush}
 use Rattle.model.specs.Flush.{filtered, delisted, headAfter}
-use Rattle.model.proofs.Sizes.{sizes, slot-lt}
+use Rattle.model.proofs.Sizes.{sizes, slot-is-lt}
 use Rattle.model.proofs.Heads.{head-fits, head-after}
 use Rattle.model.proofs.Checks.{pages-fit}
 use Rattle.head.specs.Heads.{asHead}
@@ -42,7 +42,7 @@ small c =
 make-requires : tie.Need-make-requires
 make-requires c κs =
     let s = start (c .before .before) in
-    (s .pre .0 .fine, (rw (c .slot-of .ensures) (slot-lt _ (s .pre .0 .fine) _), (s .pre .0 .long, pages-fit _ _ (s .pre .1 .0 .pages))))
+    (s .pre .0 .fine, (slot-is-lt _ (s .pre .0 .fine) _ (c .slot-of .ensures), (s .pre .0 .long, pages-fit _ _ (s .pre .1 .0 .pages))))
 
 -- ---- the partition with its new filter, and the list without what expires
 made : (c : tie.After-make) → let a = start (read-at c) .args in c .make .last .0 ≡ filtered (a .g) (a .part .now)

@@ -8,12 +8,12 @@ use Rattle.model.specs.Flush.{withBatch}
 use Rattle.model.specs.Partition.{flushesOf}
 use Rattle.model.proofs.Parts.{still-long}
 use Rattle.model.proofs.Lengths.{length-withBatch}
-use Rattle.model.proofs.Sizes.{sizes, slot-page-fits}
+use Rattle.model.proofs.Sizes.{sizes, slot-is-lt, slot-page-fits}
 use Rattle.model.proofs.Partitions.{emptied-none, emptied-turn}
 use Rattle.model.proofs.PartitionsFlash.{batch-none}
 use Rattle.head.proofs.Fields.{flushes-is}
 use Rattle.partition.proofs.Inside.{list-inside, page-inside}
-use Rattle.flush.proofs.Moving.{slot-below-kept, batch-turn}
+use Rattle.flush.proofs.Moving.{batch-turn}
 use Rattle.flush.proofs.move_batch.Statement.{statement}
 use Rattle.flush.proofs.move_batch.Tie as tie
 
@@ -45,7 +45,7 @@ add-n : tie.Need-add-n Inv-loop μ-loop
 add-n c = omega (arith, c .before .before .before .before .before .pre .1 .1 .0, flushes-is (c .before .read .ensures))
 
 slot-below : (c : tie.After-slot-of Inv-loop μ-loop) → c .slot-of .result < start c .args .g .kept
-slot-below c = slot-below-kept _ (start c .pre .0 .fine) _ (c .slot-of .ensures)
+slot-below c = slot-is-lt _ (start c .pre .0 .fine) _ (c .slot-of .ensures)
 
 loop-holds : tie.Need-loop-holds Inv-loop μ-loop
 loop-holds c = (omega arith, refl, refl, sym (emptied-none _ _ _), sym (batch-none _ _ _ _))

@@ -8,7 +8,7 @@ use borrow.Author.Tests.{not-true, not-false}
 use Rattle.model.specs.Geometry.{partitions, slotPageAt}
 use Rattle.model.specs.Partition.{headOf, slot, live, batchPasses}
 use Rattle.model.proofs.Heads.{head-fits}
-use Rattle.model.proofs.Sizes.{sizes, slot-lt, partition-of-lt, page-of-lt}
+use Rattle.model.proofs.Sizes.{sizes, slot-is-lt, partition-of-lt, page-of-lt}
 use Rattle.head.proofs.Fields.{flushes-is}
 use Rattle.partition.proofs.Inside.{list-inside}
 use Rattle.geometry.proofs.Slots.{slot-after}
@@ -87,7 +87,7 @@ inside c =
     (omega (arith, h .0, s .pre .1 .1), h .1)
 
 passes-requires : tie.Need-passes-requires Inv-loop μ-loop Inv-batches μ-batches
-passes-requires c κs = let l = c .before .before in let w = start l .pre .0 in (w .fine, (omega (arith, slotted c, slot-lt (start l .args .g) (w .fine) (l .batches .next)), w .long))
+passes-requires c κs = let l = c .before .before in let w = start l .pre .0 in (w .fine, (slot-is-lt _ (w .fine) _ (slotted c), w .long))
 
 batches-again : tie.Need-batches-again Inv-loop μ-loop Inv-batches μ-batches
 batches-again c =
@@ -100,7 +100,7 @@ slot-page-at-requires c κs =
     let l = c .before .before .before .before in
     let s = start l in
     let ok = s .pre .0 .fine in
-    (ok, (ranges l .0, (omega (arith, slotted (c .before .before), slot-lt (s .args .g) ok (l .batches .next)), ranges l .1)))
+    (ok, (ranges l .0, (slot-is-lt _ ok _ (slotted (c .before .before)), ranges l .1)))
 
 is-expected-at-requires : tie.Need-is-expected-at-requires Inv-loop μ-loop Inv-batches μ-batches
 is-expected-at-requires c κs = (start (turn c) .pre .0 .fine, inside c .0)

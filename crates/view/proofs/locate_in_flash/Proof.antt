@@ -8,7 +8,7 @@ use Rattle.model.specs.Geometry.{slotPageAt}
 use Rattle.model.specs.Page.{expected}
 use Rattle.model.specs.Partition.{slot}
 use Rattle.model.specs.Get.{batchPage}
-use Rattle.model.proofs.Sizes.{slot-lt, slot-page-fits}
+use Rattle.model.proofs.Sizes.{slot-lt, slot-is-lt, slot-page-fits}
 use Rattle.view.proofs.locate_in_flash.Statement.{statement}
 use Rattle.view.proofs.locate_in_flash.Tie as tie
 
@@ -25,7 +25,7 @@ examined : (c : tie.After-is-expected-at) → let a = c .before .before .before 
 examined c = rw (c .is-expected-at .ensures, spot (c .before))
 
 slot-page-at-requires : tie.Need-slot-page-at-requires
-slot-page-at-requires c κs = let p = c .before .before .pre in (p .0, (p .1 .1 .0, (rw (c .slot-of .ensures) (slot-lt _ (p .0) _), p .1 .1 .1 .0)))
+slot-page-at-requires c κs = let p = c .before .before .pre in (p .0, (p .1 .1 .0, (slot-is-lt _ (p .0) _ (c .slot-of .ensures), p .1 .1 .1 .0)))
 
 is-expected-at-requires : tie.Need-is-expected-at-requires
 is-expected-at-requires c κs = (c .before .before .before .pre .0, inside c)
