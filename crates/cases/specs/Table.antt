@@ -1,10 +1,11 @@
--- "Bench cases (P: proved)": what the definitions give, beside what the paper says.
+-- "Bench cases (P: proved)": what the definitions give, beside what the paper says. Then cases of document 02's jobs.
 use Prim.Native.Nat.{ℕ}
 use Prim.Native.String.{String}
 use mathlib.Core.Path.{_≡_}
 use mathlib.Core.List.{List, [], _∷_, _++_}
 use Rattle.model.specs.declared.Geometry.{Geometry}
-use Rattle.model.specs.Bytes.{zeros}
+use lib.ListN.{take}
+use Rattle.model.specs.Bytes.{write, zeros}
 use Rattle.model.specs.Geometry.{geometry, G, capacity, memoryNeed, flashNeed}
 use Rattle.model.specs.Keys.{mixed, bitOf}
 use Rattle.model.specs.Partition.{listedOf}
@@ -67,6 +68,10 @@ session cs = allFigures (replies (areas 144 128) (format G ∷ cs))
 unfoldable pub formatting : Geometry → ℕ → ℕ → List (List ℕ)
 formatting g m f = allFigures (replies (areas m f) (format g ∷ []))
 
+-- what a put of 0 answers on a fresh table of G whose memory is changed so, beside so many bytes of flash
+unfoldable pub puttingZero : (List ℕ → List ℕ) → ℕ → List (List ℕ)
+puttingZero change f = allFigures (replies (record { memory = change (run (areas 144 128) (format G ∷ []) .memory); flash = zeros f }) (put 1 0 ∷ []))
+
 -- the worked session
 abbrev pub input : String
 input = "(format (parts 0) (page 64) (pages 1) (kept 2) (bits 64) (hashes 3) (list 1))\n(put 1 10)\n(put 2 20)\n(put 3 30)\n(put 0 40)\n(get 2)\n(del 2)\n(get 2)\n(del 3)\n(get 3)\n(flush 0)\n(get 0)\n"
@@ -117,6 +122,14 @@ rows =
     ∷ answers (session (put 1 10 ∷ put 2 20 ∷ put 3 30 ∷ put 0 40 ∷ get 2 ∷ del 2 ∷ get 2 ∷ del 3 ∷ get 3 ∷ flush 0 ∷ get 0 ∷ []))
     (ok 0 ∷ ok 0 ∷ ok 0 ∷ ok 0 ∷ ok 1 ∷ foundWith 20 1 ∷ ok 0 ∷ noneWith 0 ∷ refusedWith 14 0 ∷ foundWith 30 1 ∷ ok 1 ∷ foundWith 40 1 ∷ [])
     ∷ answers (linesPrint (linesOf (text input)) programAreas ∷ []) (text output ∷ [])
+    -- job 1: a put of 0 is refused, also for a key that its page has and for a full page, where nothing is flushed then
+    ∷ answers (session (put 5 0 ∷ put 1 10 ∷ put 2 20 ∷ put 3 1 ∷ put 3 0 ∷ put 5 0 ∷ get 3 ∷ get 5 ∷ []))
+    (ok 0 ∷ refusedWith 21 0 ∷ ok 0 ∷ ok 0 ∷ ok 0 ∷ refusedWith 21 0 ∷ refusedWith 21 0 ∷ foundWith 1 0 ∷ noneWith 0 ∷ [])
+    -- behind 2, 11, 2 and 3
+    ∷ answers (puttingZero (take 31) 128 ++ puttingZero (write 4 1 28) 128 ++ puttingZero (take 143) 128 ++ puttingZero (λ m. m) 127)
+    (refusedWith 2 0 ∷ refusedWith 11 0 ∷ refusedWith 2 0 ∷ refusedWith 3 0 ∷ [])
+    -- before 12, of the list and of the key's page
+    ∷ answers (puttingZero (write 4 2 36) 128 ++ puttingZero (write 2 4 80) 128) (refusedWith 21 0 ∷ refusedWith 21 0 ∷ [])
     ∷ []
 
 -- every row agrees

@@ -1,4 +1,4 @@
--- On areas that show a table the checks come down to those of the state: 4, 14, 15, 16, 17. Refusals 2, 3, 11 and 12 do not come up.
+-- On areas that show a table the checks come down to those of the arguments and of what the table holds: 4, 14, 15, 16, 17, 21. Refusals 2, 3, 11 and 12 do not come up.
 use Prim.Native.Nat.{ℕ, _^_, _≤_, _<_}
 use mathlib.Core.Bool.{Bool, true, false, not, _&&_, _||_, and-false}
 use mathlib.Core.Path.{_≡_, refl, _∙_, ap}
@@ -15,7 +15,7 @@ use Rattle.model.specs.Partition.{partition, headOf, flushesOf, isLive}
 use Rattle.model.specs.Answers.{Areas, Refusal, unread}
 use Rattle.model.specs.Refusals.{refuseIf, unopened, headOverfull, keyOverfull, somePageOverfull, lastFlush}
 use Rattle.model.specs.Flush.{inUse}
-use Rattle.model.specs.Put.{due}
+use Rattle.model.specs.Put.{noPosition, due}
 use Rattle.model.specs.Del.{isListed, youngest, stampFor}
 use Rattle.model.specs.Calls.{put, get, del, flush, view, checks}
 use Rattle.model.proofs.Sizes.{page-of-lt, partition-of-lt}
@@ -94,10 +94,11 @@ module _ (a : Areas) (g : Geometry) (ps : ℕ → Part) (shows : Shows a g ps) (
     pub get-checks : checks a (get k) ≡ none
     get-checks = checks-get a g (shows .geometry) opening k ∙ get-passes g k _ key-ok
 
-    -- a flush is due, and no flush number is left
-    pub put-checks : (v : ℕ) → checks a (put k v) ≡ refuseIf (dueIn g k (ps t) && eqb (flushesOf (partition g t (a .memory))) lastFlush) 16 none
+    -- the value is no position; or a flush is due, and no flush number is left
+    pub put-checks : (v : ℕ) → checks a (put k v)
+        ≡ refuseIf (noPosition v) 21 (refuseIf (dueIn g k (ps t) && eqb (flushesOf (partition g t (a .memory))) lastFlush) 16 none)
     put-checks v =
-        checks-put a g (shows .geometry) opening k v ∙ put-last g k _ key-ok (pages-ok t below) ∙ rw (due-shown g (shows .ok) t _ _ _ (at t below) k)
+        checks-put a g (shows .geometry) opening k v ∙ put-last g k _ v key-ok (pages-ok t below) ∙ rw (due-shown g (shows .ok) t _ _ _ (at t below) k)
 
     -- the key must be listed, and no place is free
     pub del-checks : checks a (del k) ≡ refuseIf (mustList g k (ps t) && eqb (length (ps t .list)) (g .list)) 14 none

@@ -14,7 +14,7 @@ use Rattle.model.specs.Keys.{partitionOf}
 use Rattle.model.specs.Partition.{partition, flushesOf}
 use Rattle.model.specs.Answers.{Areas, done}
 use Rattle.model.specs.Refusals.{lastFlush}
-use Rattle.model.specs.Put.{due, putIn}
+use Rattle.model.specs.Put.{noPosition, due, putIn}
 use Rattle.model.specs.Del.{deleted}
 use Rattle.model.specs.Calls.{del, put, checks, result, effect}
 use Rattle.model.proofs.Sizes.{partition-of-lt}
@@ -89,7 +89,8 @@ module _ (a : Areas) (h : History) (inv : InStep a h) (k : ℕ) (hk : k < 2 ^ 64
 
     number-left : checks a (put k v) ≡ none → dueIn g k s ≡ true → eqb (flushesOf (partition g t (a .memory))) lastFlush ≡ false
     number-left e d =
-        let free = refuse-none (dueIn g k s && eqb (flushesOf (partition g t (a .memory))) lastFlush) 16 none (sym (put-checks a g (inv .table) (inv .shows) (inv .good .core .parts) k hk v) ∙ e) .0 in
+        let later = refuse-none (noPosition v) 21 _ (sym (put-checks a g (inv .table) (inv .shows) (inv .good .core .parts) k hk v) ∙ e) .1 in
+        let free = refuse-none (dueIn g k s && eqb (flushesOf (partition g t (a .memory))) lastFlush) 16 none later .0 in
         simp d at free
 
     pub put-keeps : checks a (put k v) ≡ none → InStep (effect a (put k v)) (note h (putting k v (cond (dueIn g k s) (g .pages) 0)))

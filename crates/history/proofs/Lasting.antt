@@ -1,9 +1,8 @@
--- What else holds after every list of calls that starts from an accepted format.
+-- What else holds from a format on.
 use Prim.Native.Nat.{ℕ, _+_, _*_, _≤_, _<_}
-use mathlib.Core.Bool.{true, false}
+use mathlib.Core.Bool.{true}
 use mathlib.Core.Path.{_≡_}
-use mathlib.Core.List.{List, _∷_}
-use Rattle.model.specs.declared.Geometry.{Geometry}
+use mathlib.Core.List.{_∷_}
 use Rattle.model.specs.Geometry.{partitions, capacity}
 use Rattle.model.specs.DeleteList.{stampAt}
 use Rattle.model.specs.Filter.{isSet, filterFor}
@@ -12,7 +11,7 @@ use Rattle.model.specs.Answers.{Areas}
 use Rattle.model.specs.Get.{batchPage}
 use Rattle.model.specs.Calls.{Call, format, geometryIn, partitionIn, reply, run}
 use Rattle.history.specs.History.{History, events, remember}
-use Rattle.history.specs.Claim.{Fits, AllFit, isRefused}
+use Rattle.history.specs.Claim.{Fits, FromFormat}
 use Rattle.history.proofs.InStep.{InStep}
 use Rattle.history.proofs.Demand.{in-step}
 use Rattle.history.proofs.Counts.{buffered, strong-count}
@@ -39,6 +38,5 @@ lasts a h inv = record {
   refusals = refusals-possible a h inv;
 }
 
-pub lasting : (a : Areas) (h : History) (g : Geometry) → isRefused (reply a (format g)) ≡ false → (cs : List Call) → AllFit cs
-    → Lasting (run a (format g ∷ cs)) (remember h (events a (format g ∷ cs)))
+pub lasting : FromFormat Lasting
 lasting a h g accepted cs fits = lasts (run a (format g ∷ cs)) (remember h (events a (format g ∷ cs))) (in-step a h g accepted cs fits)

@@ -1,3 +1,5 @@
+pub mod FromFormat
+pub mod Positions
 pub mod Modify
 pub mod Table
 pub mod Told

@@ -16,6 +16,7 @@ use Rattle.model.specs.Partition.{partition, headOf, flushesOf, isLive}
 use Rattle.model.specs.Answers.{Areas, Refusal, unread, Answer, done, found, absent, shown, refused}
 use Rattle.model.specs.Refusals.{refuseIf, lastFlush}
 use Rattle.model.specs.Flush.{inUse}
+use Rattle.model.specs.Put.{noPosition}
 use Rattle.model.specs.Format.{formatChecks}
 use Rattle.model.specs.View.{viewed}
 use Rattle.model.specs.Calls.{Call, format, put, get, del, flush, view, checks, result, reply}
@@ -30,12 +31,12 @@ use Rattle.history.proofs.Pages.{page-expected}
 use Rattle.history.proofs.Shows.{live-by-table}
 use Rattle.history.proofs.Checking.{put-checks, del-checks, flush-out, flush-checks, view-out, view-checks}
 use Rattle.history.proofs.InStep.{InStep}
-use Rattle.history.proofs.Demand.{holds}
+use Rattle.history.proofs.Demand.{says}
 
 -- the refusals that a call can meet
 abbrev pub possible : Call → List ℕ
 possible (format g) = 1 ∷ 2 ∷ 3 ∷ []
-possible (put k v) = 16 ∷ []
+possible (put k v) = 21 ∷ 16 ∷ []
 possible (get k) = []
 possible (del k) = 14 ∷ []
 possible (flush t) = 4 ∷ 15 ∷ 16 ∷ []
@@ -104,9 +105,12 @@ module _ (a : Areas) (h : History) (inv : InStep a h) where
   pub refusals-possible : (c : Call) → Fits c → Among (possible c) (reply a c)
   unfolding any
   refusals-possible (format g′) fits = among a (format g′) _ _ (checks-format a g′) (format-gives a g′) (λ e. rw (result-format a g′) tt)
-  refusals-possible (put k v) fits = among a (put k v) _ _ (put-checks a g (inv .table) (inv .shows) (inv .good .core .parts) k (fits .0) v)
-      (give-if (16 ∷ []) (due g k (of k) && eqb (flushesOf (p (partitionOf g k))) lastFlush) 16 none refl tt) (λ e. rw (result-put a _ refl k v _ refl) tt)
-  refusals-possible (get k) fits = accepted (reply a (get k)) _ (holds a h inv .each k fits .says)
+  refusals-possible (put k v) fits =
+      let ns : List ℕ = 21 ∷ 16 ∷ [] in
+      let last = due g k (of k) && eqb (flushesOf (p (partitionOf g k))) lastFlush in
+      among a (put k v) ns _ (put-checks a g (inv .table) (inv .shows) (inv .good .core .parts) k (fits .0) v)
+      (give-if ns (noPosition v) 21 (refuseIf last 16 none) refl (give-if ns last 16 none refl tt)) (λ e. rw (result-put a _ refl k v _ refl) tt)
+  refusals-possible (get k) fits = accepted (reply a (get k)) _ (says a h inv k fits)
   refusals-possible (del k) fits = among a (del k) _ _ (del-checks a g (inv .table) (inv .shows) (inv .good .core .parts) k fits)
       (give-if (14 ∷ []) (mustList g k (of k) && eqb (length (of k .list)) (g .list)) 14 none refl tt) (λ e. rw (result-del a k) tt)
   refusals-possible (flush t) fits = either (ltb t (partitions g))

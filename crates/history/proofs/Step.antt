@@ -1,23 +1,15 @@
 -- Every call keeps areas and history in step.
 use Prim.Native.Nat.{ℕ}
 use mathlib.Core.Path.{_≡_, refl}
-use mathlib.Core.Option.{Option, none, some}
-use Rattle.model.specs.Answers.{Areas, Refusal, Answer, done, found, absent, shown, refused}
+use mathlib.Core.Option.{none}
+use Rattle.model.specs.Answers.{Areas, Answer, done, found, absent, shown, refused}
 use Rattle.model.specs.Calls.{Call, format, put, get, del, flush, view, checks, result, reply, effect, after}
-use Rattle.model.proofs.Calls.{result-del, result-format, result-flush, effect-get, effect-view, reply-refused, after-refused, reply-accepted, after-done, after-same}
+use Rattle.model.proofs.Calls.{result-del, result-format, result-flush, effect-get, effect-view, after-same}
 use Rattle.history.specs.History.{History, accepted, heard, note}
 use Rattle.history.specs.Claim.{Fits}
+use Rattle.history.proofs.FromFormat.{outcome}
 use Rattle.history.proofs.InStep.{InStep, format-keeps, flush-keeps}
 use Rattle.history.proofs.Keyed.{del-keeps, put-result, put-keeps}
-
--- what holds of a refusal that leaves both areas, and of the call done, holds of what the call leaves and answers
-pub outcome : (a : Areas) (c : Call) (n : ℕ) (P : Areas → Answer → Type 0) → result a c ≡ done n
-    → ((m r : ℕ) → P a (refused m r)) → (checks a c ≡ none → P (effect a c) (done n)) → P (after a c) (reply a c)
-outcome a c n P ends turned kept = go (checks a c) refl
-  where
-    go : (o : Option Refusal) → checks a c ≡ o → P (after a c) (reply a c)
-    go (some r) e = rw (after-refused a c r e, reply-refused a c r e) (turned (r .number) (r .reads))
-    go none e = rw (after-done a c e n ends, reply-accepted a c e, ends) (kept e)
 
 module _ (a : Areas) (h : History) (inv : InStep a h) where
   -- a refused call changes nothing

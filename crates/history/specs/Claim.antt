@@ -54,9 +54,11 @@ valueOf none = none
 valueOf (some w) = some (w .value)
 
 -- A get of any key is accepted. It gives the history's value for that key, and none exactly when the history has no such key.
+-- Document 02: "From a format on ... lookups then never show 0."
 -- Its reads are at most the live number of the key's partition, and at most one page of each live batch; its answer follows from the batches read.
 pub record Right (a : Areas) (h : History) (k : ℕ) : Type 0 where
   pub says : said (reply a (get k)) ≡ some (valueOf (h .keys k))
+  pub nonzero : said (reply a (get k)) ≡ some (some 0) → ⊥
   pub reads : readsOf (reply a (get k)) ≤ h .live (partitionOf (h .geometry) k)
   pub counts : readsOf (reply a (get k)) ≡ length (readBy a k)
   pub follows : Follows a k (reply a (get k)) (readBy a k)
@@ -67,8 +69,12 @@ pub record Holds (a : Areas) (h : History) : Type 0 where
   pub each : (k : ℕ) → k < 2 ^ 64 → Right a h k
   pub writes : h .putPages * capacity (h .geometry) ≤ h .geometry .pages * h .puts
 
+-- "From a format on": what is claimed of both areas and of the history after every list of calls.
 -- The list starts from an accepted format on areas of any content, whatever the history held. Refused calls and later formats are in it.
-unfoldable pub Demand3 : Type 0
-Demand3 = (a : Areas) (h : History) (g : Geometry) → isRefused (reply a (format g)) ≡ false
+abbrev pub FromFormat : (Areas → History → Type 0) → Type 0
+FromFormat Claimed = (a : Areas) (h : History) (g : Geometry) → isRefused (reply a (format g)) ≡ false
     → (cs : List Call) → AllFit cs
-    → Holds (run a (format g ∷ cs)) (remember h (events a (format g ∷ cs)))
+    → Claimed (run a (format g ∷ cs)) (remember h (events a (format g ∷ cs)))
+
+unfoldable pub Demand3 : Type 0
+Demand3 = FromFormat Holds

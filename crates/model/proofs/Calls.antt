@@ -1,7 +1,7 @@
 -- Laws of a call's answer and effect: on a table the calls speak of its geometry and the common checks stop nothing; what a refusal leaves; and which refusal is given where there is no table.
 use Prim.Native.Nat.{ℕ, _≤_, _<_}
 use mathlib.Core.Bool.{Bool, true, false, cond, not, _||_}
-use mathlib.Core.Path.{_≡_, refl, _∙_}
+use mathlib.Core.Path.{_≡_, refl, sym, _∙_}
 use mathlib.Core.List.{List}
 use mathlib.Core.Option.{Option, none, some}
 use native.Mathlib.Omega.{arith}
@@ -22,9 +22,9 @@ use Rattle.model.specs.Put.{due, putChecks, putIn}
 use Rattle.model.specs.Get.{getChecks, sought}
 use Rattle.model.specs.Del.{delChecks, deleted}
 use Rattle.model.specs.View.{viewChecks, pageShown, viewed}
-use Rattle.model.specs.Calls.{Call, format, put, get, del, flush, view, geometryIn, checks, result, reply, effect, unlessRefused, after}
+use Rattle.model.specs.Calls.{Call, format, put, get, del, flush, view, geometryIn, keyPartition, checks, result, reply, effect, unlessRefused, after}
 use Rattle.model.proofs.Tests.{neither}
-use Rattle.model.proofs.Checks.{refuse-none}
+use Rattle.model.proofs.Checks.{refuse-none, position-not-0, put-accepted}
 
 -- ---- 2, 11, 2, 3: what passing them gives, and what it takes
 module _ (a : Areas) where
@@ -39,13 +39,13 @@ module _ (a : Areas) where
   unfolding unopened
   opens o later = rw (le-ltb _ _ (o .long), o .fine, eq-eqb _ _ (o .eighthZero), le-ltb _ _ (o .memoryFits), le-ltb _ _ (o .flashFits))
 
-  pub opened : unopened a none ≡ none → Opened
+  pub opened : (later : Option Refusal) → unopened a later ≡ none → Opened
   unfolding unopened
-  opened e =
+  opened later e =
       let one = refuse-none (ltb (length (a .memory)) 32) 2 _ e in
       let two = refuse-none (not (allowed (geometryIn a)) || not (eqb (eighth (a .memory)) 0)) 11 _ (one .1) in
       let three = refuse-none (ltb (length (a .memory)) (memoryNeed (geometryIn a))) 2 _ (two .1) in
-      let four = refuse-none (ltb (length (a .flash)) (flashNeed (geometryIn a))) 3 none (three .1) in
+      let four = refuse-none (ltb (length (a .flash)) (flashNeed (geometryIn a))) 3 later (three .1) in
       let numbers = neither (not (allowed (geometryIn a))) (not (eqb (eighth (a .memory)) 0)) (two .0) in
       record {
         long = ltb-false _ _ (one .0);
@@ -54,6 +54,9 @@ module _ (a : Areas) where
         memoryFits = ltb-false _ _ (three .0);
         flashFits = ltb-false _ _ (four .0);
       }
+
+  pub later-passed : (later : Option Refusal) → unopened a later ≡ none → later ≡ none
+  later-passed later e = sym (opens (opened later e) later) ∙ e
 
   -- which of them refuses
   module _ (later : Option Refusal) where
@@ -116,6 +119,11 @@ stopped a r always (del k) o = always _
 stopped a r always (flush t) o = always _
 stopped a r always (view t q n) o = always _
 
+-- a put of 0 is accepted on no areas
+pub put-not-0 : (a : Areas) (k : ℕ) → checks a (put k 0) ≡ none → ⊥
+unfolding checks
+put-not-0 a k e = position-not-0 0 (put-accepted (geometryIn a) k (keyPartition a k) 0 (later-passed a _ e) .0) refl
+
 -- ---- on areas with this geometry
 pub checks-format : (a : Areas) (g : Geometry) → checks a (format g) ≡ formatChecks g a
 unfolding checks
@@ -123,7 +131,7 @@ checks-format a g = refl
 
 module _ (a : Areas) (g : Geometry) (own : geometryIn a ≡ g) where
   module _ (opens : (later : Option Refusal) → unopened a later ≡ later) where
-    pub checks-put : (k v : ℕ) → checks a (put k v) ≡ putChecks g k (partition g (partitionOf g k) (a .memory))
+    pub checks-put : (k v : ℕ) → checks a (put k v) ≡ putChecks g k v (partition g (partitionOf g k) (a .memory))
     unfolding checks
     checks-put k v = opens _ ∙ rw own
 

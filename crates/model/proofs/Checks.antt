@@ -18,7 +18,7 @@ use Rattle.model.specs.Answers.{Areas, Refusal, unread}
 use Rattle.model.specs.Refusals.{refuseIf, headOverfull, pageOverfull, keyOverfull, somePageOverfull, lastFlush}
 use Rattle.model.specs.Format.{formatChecks}
 use Rattle.model.specs.Flush.{inUse, flushChecks}
-use Rattle.model.specs.Put.{due, putChecks}
+use Rattle.model.specs.Put.{noPosition, due, putChecks}
 use Rattle.model.specs.Get.{getChecks}
 use Rattle.model.specs.Del.{isListed, stampFor, delChecks}
 use Rattle.model.specs.View.{viewChecks}
@@ -94,7 +94,20 @@ module _ (g : Geometry) (a : Areas) where
       let three = refuse-none (ltb (length (a .flash)) (flashNeed g)) 3 none (two .1) in
       (not-false (allowed g) (one .0), ltb-false _ _ (two .0), ltb-false _ _ (three .0))
 
--- ---- put: when a flush is due; 12, 16
+-- ---- put: which values are no position; when a flush is due; 21, 12, 16
+module _ (v : ℕ) where
+  pub no-position : v ≡ 0 → noPosition v ≡ true
+  unfolding noPosition
+  no-position e = eq-eqb v 0 e
+
+  pub a-position : (v ≡ 0 → ⊥) → noPosition v ≡ false
+  unfolding noPosition
+  a-position h = ne-eqb v 0 h
+
+  pub position-not-0 : noPosition v ≡ false → v ≡ 0 → ⊥
+  unfolding noPosition
+  position-not-0 e = eqb-false v 0 e
+
 module _ (g : Geometry) (k : ℕ) (p : List ℕ) where
   abbrev page : List ℕ
   page = bufferOf g p (pageOf g k)
@@ -116,32 +129,40 @@ module _ (g : Geometry) (k : ℕ) (p : List ℕ) where
   unfolding due
   undue-room h e = eqb-false (countOf page) (capacity g) (rw e at h)
 
-  pub put-12 : keyOverfull g k p ≡ true → putChecks g k p ≡ some (unread 12)
-  unfolding putChecks
-  put-12 e = rw e
-
-  module _ (fits : keyOverfull g k p ≡ false) where
-    pub put-undue : due g k p ≡ false → putChecks g k p ≡ none
+  module _ (v : ℕ) where
+    pub put-21 : noPosition v ≡ true → putChecks g k v p ≡ some (unread 21)
     unfolding putChecks
-    put-undue e = rw (fits, e)
+    put-21 e = rw e
 
-    module _ (is-due : due g k p ≡ true) where
-      pub put-12-due : somePageOverfull g p ≡ true → putChecks g k p ≡ some (unread 12)
+    module _ (position : noPosition v ≡ false) where
+      pub put-12 : keyOverfull g k p ≡ true → putChecks g k v p ≡ some (unread 12)
       unfolding putChecks
-      put-12-due e = rw (fits, is-due, e)
+      put-12 e = rw (position, e)
 
-    -- with pages that fit, only a flush number can be wanting
-    pub put-last : somePageOverfull g p ≡ false → putChecks g k p ≡ refuseIf (due g k p && eqb (flushesOf p) lastFlush) 16 none
+      module _ (fits : keyOverfull g k p ≡ false) where
+        pub put-undue : due g k p ≡ false → putChecks g k v p ≡ none
+        unfolding putChecks
+        put-undue e = rw (position, fits, e)
+
+        pub put-12-due : due g k p ≡ true → somePageOverfull g p ≡ true → putChecks g k v p ≡ some (unread 12)
+        unfolding putChecks
+        put-12-due is-due e = rw (position, fits, is-due, e)
+
+    -- with pages that fit, only a position or a flush number can be wanting
+    pub put-last : keyOverfull g k p ≡ false → somePageOverfull g p ≡ false
+        → putChecks g k v p ≡ refuseIf (noPosition v) 21 (refuseIf (due g k p && eqb (flushesOf p) lastFlush) 16 none)
     unfolding putChecks
-    put-last e = rw (fits, e, and-false)
+    put-last fits e = rw (fits, e, and-false)
 
-  pub put-accepted : putChecks g k p ≡ none → (keyOverfull g k p ≡ false) × (due g k p && somePageOverfull g p ≡ false) × (due g k p && eqb (flushesOf p) lastFlush ≡ false)
-  unfolding putChecks
-  put-accepted e =
-      let one = refuse-none (keyOverfull g k p) 12 _ e in
-      let two = refuse-none (due g k p && somePageOverfull g p) 12 _ (one .1) in
-      let three = refuse-none (due g k p && eqb (flushesOf p) lastFlush) 16 none (two .1) in
-      (one .0, two .0, three .0)
+    pub put-accepted : putChecks g k v p ≡ none
+        → (noPosition v ≡ false) × (keyOverfull g k p ≡ false) × (due g k p && somePageOverfull g p ≡ false) × (due g k p && eqb (flushesOf p) lastFlush ≡ false)
+    unfolding putChecks
+    put-accepted e =
+        let one = refuse-none (noPosition v) 21 _ e in
+        let two = refuse-none (keyOverfull g k p) 12 _ (one .1) in
+        let three = refuse-none (due g k p && somePageOverfull g p) 12 _ (two .1) in
+        let four = refuse-none (due g k p && eqb (flushesOf p) lastFlush) 16 none (three .1) in
+        (one .0, two .0, three .0, four .0)
 
   -- ---- get: 12
   pub get-12 : keyOverfull g k p ≡ true → getChecks g k p ≡ some (unread 12)

@@ -12,12 +12,12 @@ use Rattle.model.specs.Partition.{withHead, live, isLive, slotBits, batc
 use Rattle.model.specs.Refusals.{unopened, headOverfull, pageOverfull, keyOverfull, somePageOverfull}
 use Rattle.model.specs.Format.{formatChecks, emptiedPages, emptiedPartitions, formatted}
 use Rattle.model.specs.Flush.{flushChecks, filtered, delisted, headAfter, flushed, withBatch}
-use Rattle.model.specs.Put.{due, putChecks, unlisted, buffered, putIn}
+use Rattle.model.specs.Put.{due, noPosition, putChecks, unlisted, buffered, putIn}
 use Rattle.model.specs.Get.{getChecks, readThrough, sought}
 use Rattle.model.specs.Del.{delChecks, unbuffered, deleted}
 use Rattle.model.specs.View.{viewChecks, viewed}
 use Rattle.model.specs.Calls.{checks, result, reply, effect, after, run, replies}
 
 unfoldable pub computing : Type 0
-unfolding word bytesOf write within firstFrom isPower allowed filterAt bufferAt stride partitionAt memoryNeed slotPageAt flashNeed geometryOf withOpening partitionOf pageOf mixed bitOf staying stayingBytes closedUp appended replaced removed stored without emptied numbered expected enlisted struck expired unexpired withBit passes withBits withEntries withPages filterFor withHead live isLive slotBits batchPasses passingFrom passing unopened headOverfull pageOverfull keyOverfull somePageOverfull formatChecks emptiedPages emptiedPartitions formatted flushChecks filtered delisted headAfter flushed withBatch due putChecks unlisted buffered putIn getChecks readThrough sought delChecks unbuffered deleted viewChecks viewed checks result reply effect after run replies
+unfolding word bytesOf write within firstFrom isPower allowed filterAt bufferAt stride partitionAt memoryNeed slotPageAt flashNeed geometryOf withOpening partitionOf pageOf mixed bitOf staying stayingBytes closedUp appended replaced removed stored without emptied numbered expected enlisted struck expired unexpired withBit passes withBits withEntries withPages filterFor withHead live isLive slotBits batchPasses passingFrom passing unopened headOverfull pageOverfull keyOverfull somePageOverfull formatChecks emptiedPages emptiedPartitions formatted flushChecks filtered delisted headAfter flushed withBatch due noPosition putChecks unlisted buffered putIn getChecks readThrough sought delChecks unbuffered deleted viewChecks viewed checks result reply effect after run replies
 computing = Unit {0}

@@ -40,7 +40,7 @@ keyPartition a k = partitionIn a (partitionOf (geometryIn a) k)
 -- the refusals that are decided before any page of flash is read, in their order
 unfoldable pub checks : Areas → Call → Option Refusal
 checks a (format g) = formatChecks g a
-checks a (put k v) = unopened a (putChecks (geometryIn a) k (keyPartition a k))
+checks a (put k v) = unopened a (putChecks (geometryIn a) k v (keyPartition a k))
 checks a (get k) = unopened a (getChecks (geometryIn a) k (keyPartition a k))
 checks a (del k) = unopened a (delChecks (geometryIn a) k (keyPartition a k))
 checks a (flush t) = unopened a (flushChecks (geometryIn a) t (partitionIn a t))

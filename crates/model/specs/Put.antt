@@ -1,4 +1,5 @@
 -- "put: a key in its buffer page gets the new value in its first place there; otherwise it is appended. For an append to a page with E entries the partition is flushed first; that flush counts as before the put. The first list entry of this key is removed. It reports pages written, 0 or Q."
+-- Document 02: "The store never puts sound at position 0 ... put therefore refuses value 0."
 use Prim.Native.Nat.{ℕ}
 use mathlib.Core.Bool.{Bool, cond, not, _&&_}
 use mathlib.Core.List.{List}
@@ -16,16 +17,21 @@ use Rattle.model.specs.Refusals.{refuseIf, keyOverfull, somePageOverfull
 use Rattle.model.specs.Flush.{flushed}
 use Rattle.model.specs.declared.Geometry.{Geometry}
 
+-- 21: the value is no position
+unfoldable pub noPosition : ℕ → Bool
+noPosition v = eqb v 0
+
 -- an append to a page with E entries
 unfoldable pub due : Geometry → ℕ → List ℕ → Bool
 due g k p = not (isSome (searched k (bufferOf g p (pageOf g k)))) && eqb (countOf (bufferOf g p (pageOf g k))) (capacity g)
 
--- 12, 16, for the key's partition with the bytes p
-unfoldable pub putChecks : Geometry → ℕ → List ℕ → Option Refusal
-putChecks g k p =
-    refuseIf (keyOverfull g k p) 12
+-- 21, 12, 16, for the key's partition with the bytes p
+unfoldable pub putChecks : Geometry → ℕ → ℕ → List ℕ → Option Refusal
+putChecks g k v p =
+    refuseIf (noPosition v) 21
+    (refuseIf (keyOverfull g k p) 12
     (refuseIf (due g k p && somePageOverfull g p) 12
-    (refuseIf (due g k p && eqb (flushesOf p) lastFlush) 16 none))
+    (refuseIf (due g k p && eqb (flushesOf p) lastFlush) 16 none)))
 
 -- the list without entry i, or as it is
 abbrev pub unlistedAt : Option ℕ → Geometry → List ℕ → List ℕ

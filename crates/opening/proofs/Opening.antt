@@ -38,7 +38,7 @@ module _ (m f : List ℕ) where
       go (some r) z = absurd (unopened-stays (areas m f) r z .1 (sym (rw z) ∙ e))
 
   pub opened-areas : openingNumber m f ≡ 0 → Opened (areas m f)
-  opened-areas e = opened (areas m f) (passed e)
+  opened-areas e = opened (areas m f) none (passed e)
 
   pub opened-table : (g : Geometry) → openingNumber m f ≡ 0 → g ≡ geometryOf m → IsTable g m f
   opened-table g e own =

@@ -60,60 +60,61 @@ module _ (g : Geometry) (m f : List ℕ) (table : IsTable g m f) (k : ℕ) where
   abbrev own : List ℕ
   own = partition g t m
 
-  abbrev stores-in : ℕ → List ℕ → List ℕ
-  stores-in v p = unlisted g k (buffered g k v p)
+  pub whole : k < 2 ^ 64 → Whole g own
+  whole key = key-whole g m (table .fine) (table .memoryFits) k key
 
-  checked : (v : ℕ) → checks (areas m f) (Call.put k v) ≡ putChecks g k own
-  checked v = checks-put (areas m f) g (table .own) (table .opens) k v
+  module _ (v : ℕ) where
+    abbrev stores-in : List ℕ → List ℕ
+    stores-in p = unlisted g k (buffered g k v p)
 
-  -- what the plan means for the key's partition
-  meant : (plan : Plan) → planFor g k own ≡ plan → Means g k own plan
-  meant plan h = rw h at (plan-means g k own)
+    checked : checks (areas m f) (Call.put k v) ≡ putChecks g k v own
+    checked = checks-put (areas m f) g (table .own) (table .opens) k v
 
-  pub refuses : (v : ℕ) (r : Refusal) → planFor g k own ≡ Refused r → Performs (Call.put k v) m f (refusing r) m f
-  refuses v r h = performing.refusing (Call.put k v) m f (asRefusal r) (checked v ∙ meant (Refused r) h)
+    -- what the plan means for the key's partition
+    meant : (plan : Plan) → planFor g k v own ≡ plan → Means g k v own plan
+    meant plan h = rw h at (plan-means g k v own)
 
-  pub can-store : planFor g k own ≡ Store → Storable g k own
-  can-store h = let w = meant Store h in storable g k own (w .0) (w .1)
+    pub refuses : (r : Refusal) → planFor g k v own ≡ Refused r → Performs (Call.put k v) m f (refusing r) m f
+    refuses r h = performing.refusing (Call.put k v) m f (asRefusal r) (checked ∙ meant (Refused r) h)
 
-  pub stores : (v : ℕ) (m′ : List ℕ) → planFor g k own ≡ Store → m′ ≡ within at (stride g) (λ p. unlisted g k (buffered g k v p)) m → Performs (Call.put k v) m f (done 0) m′ f
-  stores v m′ h e =
-      let w = meant Store h in
-      performing.doing (Call.put k v) m f 0 m′ f (checked v ∙ w .0)
-      (result-put (areas m f) g (table .own) k v false (w .1))
-      (effect-put (areas m f) g (table .own) k v false (w .1))
-      (e ∙ sym (within-same _ _ (putIn g k v) (stores-in v) m (put-kept g k own v (w .1)))) refl
+    pub can-store : planFor g k v own ≡ Store → Storable g k own
+    can-store h = let w = meant Store h in storable g k v own (w .0) (w .1)
 
-  -- ---- the key's partition lies in memory, and is flushed there
-  module _ (key : k < 2 ^ 64) where
-    below : t < partitions g
-    below = partition-of-lt g (table .fine) k key
+    pub stores : (m′ : List ℕ) → planFor g k v own ≡ Store → m′ ≡ within at (stride g) (λ p. unlisted g k (buffered g k v p)) m → Performs (Call.put k v) m f (done 0) m′ f
+    stores m′ h e =
+        let w = meant Store h in
+        performing.doing (Call.put k v) m f 0 m′ f (checked ∙ w .0)
+        (result-put (areas m f) g (table .own) k v false (w .1))
+        (effect-put (areas m f) g (table .own) k v false (w .1))
+        (e ∙ sym (within-same _ _ (putIn g k v) stores-in m (put-kept g k own v (w .1)))) refl
 
-    inside : at + stride g ≤ length m
-    inside = partition-inside g m (table .fine) (table .memoryFits) t below
+    -- ---- the key's partition lies in memory, and is flushed there
+    module _ (key : k < 2 ^ 64) where
+      below : t < partitions g
+      below = partition-of-lt g (table .fine) k key
 
-    pub whole : Whole g own
-    whole = key-whole g m (table .fine) (table .memoryFits) k key
+      inside : at + stride g ≤ length m
+      inside = partition-inside g m (table .fine) (table .memoryFits) t below
 
-    module _ (bytes : (i : ℕ) → getD m i 0 < 256) (h : planFor g k own ≡ Flush) where
-      pub can-flush : Flushable g t own
-      can-flush = let w = meant Flush h in planning.can-flush g k own (w .0) t below (partition-words g t m bytes) (w .1)
+      module _ (bytes : (i : ℕ) → getD m i 0 < 256) (h : planFor g k v own ≡ Flush) where
+        pub can-flush : Flushable g t own
+        can-flush = let w = meant Flush h in planning.can-flush g k v own (w .0) t below (partition-words g t m bytes) (w .1)
 
-      pub can-store-behind : (m₁ : List ℕ) → m₁ ≡ within at (stride g) (flushed g t) m → Storable g k (partition g t m₁)
-      can-store-behind m₁ e =
-          rw (e, mid-within at (stride g) (flushed g t) m inside (length-flushed g t own ∙ whole .long))
-          (flushed-storable g own whole (partition-words g t m bytes) t k can-flush)
+        pub can-store-behind : (m₁ : List ℕ) → m₁ ≡ within at (stride g) (flushed g t) m → Storable g k (partition g t m₁)
+        can-store-behind m₁ e =
+            rw (e, mid-within at (stride g) (flushed g t) m inside (length-flushed g t own ∙ whole key .long))
+            (flushed-storable g own (whole key) (partition-words g t m bytes) t k can-flush)
 
-    pub flushes : (v : ℕ) (m₁ f′ m′ : List ℕ) → planFor g k own ≡ Flush → m₁ ≡ within at (stride g) (flushed g t) m
-        → f′ ≡ withBatch g t own (g .pages) f → m′ ≡ within at (stride g) (λ p. unlisted g k (buffered g k v p)) m₁
-        → Performs (Call.put k v) m f (done (g .pages)) m′ f′
-    flushes v m₁ f′ m′ h e ef e′ =
-        let w = meant Flush h in
-        let kept = length-flushed g t own ∙ whole .long in
-        let both : within at (stride g) (putIn g k v) m ≡ m′ =
-        within-same at (stride g) (putIn g k v) (λ (p : List ℕ). stores-in v (flushed g t p)) m (put-flushed g k own v (w .1))
-        ∙ sym (within-twice at (stride g) (flushed g t) (stores-in v) m inside kept (length-unlisted g k _ ∙ length-buffered g k v _ ∙ kept))
-        ∙ ap (within at (stride g) (stores-in v)) (sym e) ∙ sym e′ in
-        performing.doing (Call.put k v) m f (g .pages) m′ f′ (checked v ∙ w .0)
-        (result-put (areas m f) g (table .own) k v true (w .1))
-        (effect-put (areas m f) g (table .own) k v true (w .1)) (sym both) ef
+      pub flushes : (m₁ f′ m′ : List ℕ) → planFor g k v own ≡ Flush → m₁ ≡ within at (stride g) (flushed g t) m
+          → f′ ≡ withBatch g t own (g .pages) f → m′ ≡ within at (stride g) (λ p. unlisted g k (buffered g k v p)) m₁
+          → Performs (Call.put k v) m f (done (g .pages)) m′ f′
+      flushes m₁ f′ m′ h e ef e′ =
+          let w = meant Flush h in
+          let kept = length-flushed g t own ∙ whole key .long in
+          let both : within at (stride g) (putIn g k v) m ≡ m′ =
+          within-same at (stride g) (putIn g k v) (λ (p : List ℕ). stores-in (flushed g t p)) m (put-flushed g k own v (w .1))
+          ∙ sym (within-twice at (stride g) (flushed g t) stores-in m inside kept (length-unlisted g k _ ∙ length-buffered g k v _ ∙ kept))
+          ∙ ap (within at (stride g) stores-in) (sym e) ∙ sym e′ in
+          performing.doing (Call.put k v) m f (g .pages) m′ f′ (checked ∙ w .0)
+          (result-put (areas m f) g (table .own) k v true (w .1))
+          (effect-put (areas m f) g (table .own) k v true (w .1)) (sym both) ef

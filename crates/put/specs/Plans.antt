@@ -15,5 +15,5 @@ planWith (some r) flushes = Refused (ofRefusal r)
 planWith none false = Store
 planWith none true = Flush
 
-unfoldable pub planFor : Geometry → ℕ → List ℕ → Plan
-planFor g k p = planWith (putChecks g k p) (due g k p)
+unfoldable pub planFor : Geometry → ℕ → ℕ → List ℕ → Plan
+planFor g k v p = planWith (putChecks g k v p) (due g k p)

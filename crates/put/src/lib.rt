@@ -44,11 +44,17 @@ fn is_due(part: &[u8], g: Geometry, key: u64) -> bool
     }
 }
 
-// 12, 16; and whether a flush is due.
-pub fn decide(part: &[u8], g: Geometry, key: u64) -> Plan
+// 21, 12, 16; and whether a flush is due.
+pub fn decide(part: &[u8], g: Geometry, key: u64, value: u64) -> Plan
     requires { ⌜ Whole g (now part) ⌝ }
-    ensures { λ r. ⌜ r ≡ planFor g key (now (part .entry)) ⌝ }
+    ensures { λ r. ⌜ r ≡ planFor g key value (now (part .entry)) ⌝ }
 {
+    if value == 0 {
+        return Plan::Refused(Refusal {
+            number: 21,
+            reads: 0,
+        });
+    }
     if buffer::is_key_overfull(part, g, key) {
         return Plan::Refused(Refusal {
             number: 12,
@@ -120,7 +126,7 @@ pub fn call(memory: &mut [u8], flash: &mut [u8], g: Geometry, key: u64, value: u
     requires { ⌜ IsTable g (now memory) (now flash) ⌝ }
     ensures { λ r. ⌜ Performs (Call.put key value) (now (memory .entry)) (now (flash .entry)) (written r) (now (memory .exit)) (now (flash .exit)) ⌝ }
 {
-    match decide(partition::part_of_key(memory, g, key), g, key) {
+    match decide(partition::part_of_key(memory, g, key), g, key, value) {
         Plan::Refused(refusal) => Written::Refused(refusal),
         Plan::Store => {
             store_unlisted_at(memory, g, key, value);

@@ -24,10 +24,10 @@ planned c = c .before .before .before .before
 decide-requires : tie.Need-decide-requires
 decide-requires c κs = let s = c .before .before .before .before in rw (c .part-of-key .ensures) (whole _ _ _ (s .pre) _ (omega arith))
 
-decided : (c : tie.After-decide) → let a = start c .args in planFor (a .g) (a .key) (partition (a .g) (partitionOf (a .g) (a .key)) (a .memory .now)) ≡ c .decide .result
-decided c = let a = start c .args in asked-of (planFor (a .g) (a .key)) (c .decide .ensures) (c .before .part-of-key .ensures)
+decided : (c : tie.After-decide) → let a = start c .args in planFor (a .g) (a .key) (a .value) (partition (a .g) (partitionOf (a .g) (a .key)) (a .memory .now)) ≡ c .decide .result
+decided c = let a = start c .args in asked-of (planFor (a .g) (a .key) (a .value)) (c .decide .ensures) (c .before .part-of-key .ensures)
 
-flush-first : (c : tie.After-enum-told2) → let a = start (c .before .before) .args in planFor (a .g) (a .key) (partition (a .g) (partitionOf (a .g) (a .key)) (a .memory .now)) ≡ Flush
+flush-first : (c : tie.After-enum-told2) → let a = start (c .before .before) .args in planFor (a .g) (a .key) (a .value) (partition (a .g) (partitionOf (a .g) (a .key)) (a .memory .now)) ≡ Flush
 flush-first c = decided (c .before .before) ∙ c .enum-told2 .given .1
 
 bytes : (c : tie.After-decide) (i : ℕ) → getD (start c .args .memory .now) i 0 < 256
@@ -35,14 +35,14 @@ bytes c i = omega (arith, c .before .before .before .before .slice-known .given 
 
 -- ---- what the calls ask
 store-unlisted-at-requires : tie.Need-store-unlisted-at-requires
-store-unlisted-at-requires c κs = let d = c .before .before .before in let s = start d in (s .pre .fine, (s .pre .memoryFits, can-store _ _ _ (s .pre) _ (decided d ∙ c .before .enum-told .given .1)))
+store-unlisted-at-requires c κs = let d = c .before .before .before in let s = start d in (s .pre .fine, (s .pre .memoryFits, can-store _ _ _ (s .pre) _ _ (decided d ∙ c .before .enum-told .given .1)))
 
 apply-at-requires : tie.Need-apply-at-requires
 apply-at-requires c κs =
     let p = c .before .before .before in
     let d = p .before .before in
     let s = start d in
-    (s .pre .fine, (s .pre .memoryFits, (rw (c .partition-of .ensures) (can-flush _ _ _ (s .pre) _ (omega arith) (bytes d) (flush-first p)), s .pre .flashFits)))
+    (s .pre .fine, (s .pre .memoryFits, (rw (c .partition-of .ensures) (can-flush _ _ _ (s .pre) _ _ (omega arith) (bytes d) (flush-first p)), s .pre .flashFits)))
 
 store-unlisted-at-requires-2 : tie.Need-store-unlisted-at-requires-2
 store-unlisted-at-requires-2 c κs =
@@ -50,7 +50,7 @@ store-unlisted-at-requires-2 c κs =
     let p = planned f in
     let d = p .before .before in
     let s = start d in
-    (s .pre .fine, (omega (arith, s .pre .memoryFits), can-store-behind _ _ _ (s .pre) _ (omega arith) (bytes d) (flush-first p) _ (rw (f .before .partition-of .ensures) at (f .apply-at .ensures .0))))
+    (s .pre .fine, (omega (arith, s .pre .memoryFits), can-store-behind _ _ _ (s .pre) _ _ (omega arith) (bytes d) (flush-first p) _ (rw (f .before .partition-of .ensures) at (f .apply-at .ensures .0))))
 
 -- ---- the answers
 returns : tie.Need-returns
@@ -65,7 +65,7 @@ returns-3 c =
     let p = planned f in
     let s = start (p .before .before) in
     let t = f .before .partition-of .ensures in
-    flushes _ _ _ (s .pre) _ (omega arith) _ _ _ _ (flush-first p) (rw t at (f .apply-at .ensures .0)) (rw t at (f .apply-at .ensures .1)) (c .before .before .store-unlisted-at2 .ensures)
+    flushes _ _ _ (s .pre) _ _ (omega arith) _ _ _ (flush-first p) (rw t at (f .apply-at .ensures .0)) (rw t at (f .apply-at .ensures .1)) (c .before .before .store-unlisted-at2 .ensures)
 
 pub call-spec : {M : Type 1} → statement M
 call-spec = tie.close (tie.spec (λ c κs. search needs) decide-requires (λ c. search needs) (λ c. search needs) store-unlisted-at-requires (λ c. search needs) (λ c κs. search needs) apply-at-requires store-unlisted-at-requires-2 (λ c. search needs) returns (λ c. search needs) returns-2 (λ c. search needs) (λ c. search needs) returns-3)
