@@ -44,7 +44,7 @@ pub fn fill<I: Index>(tables: &mut Tables, flushes: u32, random: &mut Random) {
                 let op = Op {
                     table: table as u64,
                     key: key_in(tables, partition, random),
-                    value: random.number(),
+                    value: random.value(),
                 };
                 since += 1;
                 if put::<I>(tables, op) > 0 {
@@ -72,7 +72,7 @@ pub fn top_up(tables: &mut Tables, random: &mut Random) {
                 let op = Op {
                     table: table as u64,
                     key,
-                    value: key,
+                    value: key.max(1),
                 };
                 put::<RustIndex>(tables, op);
             }

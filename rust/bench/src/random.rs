@@ -17,6 +17,11 @@ impl Random {
         mixed ^ mixed >> 31
     }
 
+    /// A value, which is never 0: no put takes that.
+    pub fn value(&mut self) -> u64 {
+        self.number().max(1)
+    }
+
     /// A number below the bound.
     pub fn below(&mut self, bound: usize) -> usize {
         ((u128::from(self.number()) * bound as u128) >> 64) as usize

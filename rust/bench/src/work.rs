@@ -89,7 +89,7 @@ fn fresh(tables: &Tables, count: usize, random: &mut Random) -> Vec<Op> {
     let one = |_| Op {
         table: random.below(tables.count) as u64,
         key: random.number(),
-        value: random.number(),
+        value: random.value(),
     };
     (0..count).map(one).collect()
 }
@@ -127,7 +127,7 @@ fn mixed(tables: &mut Tables, shape: &Shape, random: &mut Random) -> Vec<Op> {
     while ops.len() < shape.puts {
         let op = if random.below(100) < 40 {
             let known = fill::sample(tables, Stand::Anywhere, random);
-            let value = random.number();
+            let value = random.value();
             Op { value, ..known }
         } else {
             fresh(tables, 1, random)[0]

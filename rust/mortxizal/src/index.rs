@@ -130,6 +130,21 @@ impl<'a> Index<'a> {
     /// A flush makes the buffer a batch. Where [`Geometry::kept`] batches are
     /// live already the oldest one goes, and with it its keys that were not put
     /// again since.
+    ///
+    /// Every key is allowed, and every value but 0: the sound store has nothing
+    /// at position 0, and no get shows it.
+    ///
+    /// ```
+    /// # use mortxizal::{Geometry, Index, Refused};
+    /// # let geometry = Geometry::default();
+    /// # let mut memory = vec![0; geometry.memory_need()?];
+    /// # let mut flash = vec![0; geometry.flash_need()?];
+    /// # let mut index = Index::format(&mut memory, &mut flash, geometry)?;
+    /// index.put(7, 70)?;
+    /// assert_eq!(index.put(7, 0), Err(Refused::NoPosition));
+    /// assert_eq!(index.get(7)?.value(), Some(70));
+    /// # Ok::<(), mortxizal::Refused>(())
+    /// ```
     #[inline]
     pub fn put(&mut self, key: u64, value: u64) -> Result<u32, Refused> {
         let answer = raw::put(self.memory, self.flash, key, value);

@@ -47,6 +47,8 @@ pub enum Refused {
     NumbersSpent,
     /// 17: the flush number is neither 0 nor that of a live batch (view).
     NotLive,
+    /// 21: the value is 0, which is no position (put).
+    NoPosition,
 }
 
 impl Refused {
@@ -64,6 +66,7 @@ impl Refused {
             Refused::BufferEmpty => 15,
             Refused::NumbersSpent => 16,
             Refused::NotLive => 17,
+            Refused::NoPosition => 21,
         }
     }
 
@@ -94,6 +97,7 @@ impl Refused {
             15 => Refused::BufferEmpty,
             16 => Refused::NumbersSpent,
             17 => Refused::NotLive,
+            21 => Refused::NoPosition,
             // The library is proved to give no other.
             number => unreachable!("refusal {number}"),
         })
@@ -114,6 +118,7 @@ impl fmt::Display for Refused {
             Refused::BufferEmpty => "there is nothing to flush",
             Refused::NumbersSpent => "the flush numbers are used up",
             Refused::NotLive => "there is no live batch with this flush number",
+            Refused::NoPosition => "the value is 0, which is no position",
         };
         write!(output, "{text} (refusal {})", self.number())
     }

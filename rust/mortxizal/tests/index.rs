@@ -112,6 +112,26 @@ fn a_damaged_table_refuses() {
 }
 
 #[test]
+fn value_0_is_no_position() {
+    let (mut memory, mut flash) = areas(G);
+    let mut index = Index::attach(&mut memory, &mut flash);
+    assert_eq!(index.put(5, 0), Err(Refused::Opening));
+    let mut index = Index::format(&mut memory, &mut flash, G).unwrap();
+    for key in 1..=3 {
+        assert_eq!(index.put(key, 1), Ok(0));
+    }
+    // A key that its page has, and one for which the full page would be flushed.
+    assert_eq!(index.put(3, 0), Err(Refused::NoPosition));
+    assert_eq!(index.put(4, 0), Err(Refused::NoPosition));
+    assert_eq!(index.get(3), found(1, 0, Place::Buffer));
+    assert_eq!(index.get(4), Ok(Lookup::None { reads: 0 }));
+    memory[36] = 2;
+    let mut index = Index::attach(&mut memory, &mut flash);
+    assert_eq!(index.put(5, 1), Err(Refused::Overfull));
+    assert_eq!(index.put(5, 0), Err(Refused::NoPosition));
+}
+
+#[test]
 fn areas_of_no_bytes() {
     let mut index = Index::attach(&mut [], &mut []);
     let short = Refused::ShortMemory;
@@ -189,20 +209,20 @@ fn several_threads_read() {
     let (mut memory, mut flash) = areas(Geometry::default());
     let mut index = Index::format(&mut memory, &mut flash, Geometry::default()).unwrap();
     for key in 0..10_000 {
-        index.put(key << 50 | key, key).unwrap();
+        index.put(key << 50 | key, key + 1).unwrap();
     }
     let index = &index;
     thread::scope(|scope| {
         for _ in 0..4 {
             scope.spawn(move || {
                 for key in 0..10_000 {
-                    assert_eq!(index.get(key << 50 | key).unwrap().value(), Some(key));
+                    assert_eq!(index.get(key << 50 | key).unwrap().value(), Some(key + 1));
                 }
             });
         }
     });
     let answer = raw::get(index.memory(), index.flash(), 7 << 50 | 7);
-    assert_eq!((answer.status, answer.value), (raw::FOUND, 7));
+    assert_eq!((answer.status, answer.value), (raw::FOUND, 8));
 }
 
 #[test]

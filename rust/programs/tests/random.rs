@@ -54,7 +54,7 @@ impl Rng {
             3..=399 => format!(
                 "(put {} {})",
                 self.key(),
-                self.pick(&[0, 1, u64::MAX, 12_345])
+                self.pick(&[0, 1, 2, 3, 10, 1 << 32, u64::MAX, 12_345])
             ),
             400..=699 => format!("(get {})", self.key()),
             700..=899 => format!("(del {})", self.key()),
@@ -110,6 +110,7 @@ fn random_lines() {
         "(refused 4 ",
         "(refused 14 ",
         "(refused 15 ",
+        "(refused 21 ",
     ] {
         assert!(lines < 10_000 || expected.contains(kind), "no line {kind}");
     }

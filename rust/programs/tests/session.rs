@@ -48,6 +48,7 @@ fn every_refusal() {
     };
     let lines = [
         ("(put 1 1)".into(), "(refused 11 0)"),
+        ("(put 1 0)".into(), "(refused 11 0)"),
         ("(get 1)".into(), "(refused 11 0)"),
         ("(del 1)".into(), "(refused 11 0)"),
         ("(flush 0)".into(), "(refused 11 0)"),
@@ -65,8 +66,13 @@ fn every_refusal() {
         ("(flush 0)".into(), "(refused 15 0)"),
         ("(flush 1)".into(), "(refused 4 0)"),
         ("(flush 4294967295)".into(), "(refused 4 0)"),
+        ("(put 5 0)".into(), "(refused 21 0)"),
         ("(put 1 10)".into(), "(ok 0)"),
+        ("(put 1 0)".into(), "(refused 21 0)"),
         ("(put 2 20)".into(), "(ok 0)"),
+        ("(put 3 30)".into(), "(ok 0)"),
+        ("(put 5 0)".into(), "(refused 21 0)"),
+        ("(get 1)".into(), "(found 10 0)"),
         ("(flush 0)".into(), "(ok 1)"),
         ("(del 1)".into(), "(ok 0)"),
         ("(del 2)".into(), "(refused 14 0)"),

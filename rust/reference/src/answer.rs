@@ -28,10 +28,12 @@ pub enum Refusal {
     NumbersSpent,
     /// 17: the flush number is neither 0 nor that of a live batch.
     NotLive,
+    /// 21: the value is 0, where the store never puts sound.
+    NoPosition,
 }
 
 impl Refusal {
-    /// The refusal's number in document 01.
+    /// The refusal's number in documents 01 and 02.
     pub fn number(self) -> u32 {
         match self {
             Refusal::Geometry => 1,
@@ -45,6 +47,7 @@ impl Refusal {
             Refusal::BufferEmpty => 15,
             Refusal::NumbersSpent => 16,
             Refusal::NotLive => 17,
+            Refusal::NoPosition => 21,
         }
     }
 

@@ -1,5 +1,5 @@
-//! The six calls. Each judges its arguments and the areas in document 01's
-//! order before it changes a byte.
+//! The six calls. Each judges its arguments and the areas in the papers' order
+//! before it changes a byte.
 
 use crate::answer::{Lookup, Place, Refusal};
 use crate::batch;
@@ -36,6 +36,9 @@ pub fn format(memory: &mut [u8], flash: &[u8], geometry: Geometry) -> Result<(),
 /// Gives the key the value: the pages written, 0 or Q.
 pub fn put(memory: &mut [u8], flash: &mut [u8], key: u64, value: u64) -> Result<u32, Refusal> {
     let layout = Layout::open(memory, flash)?;
+    if value == 0 {
+        return Err(Refusal::NoPosition);
+    }
     let name = name_of(&layout, key);
     let mut partition = PartitionMut::cut(&layout, memory, name.partition)?;
     let page = partition.page_mut(&layout, name.page);

@@ -1,11 +1,11 @@
-//! The relay's fingerprint index of document 01 in plain safe Rust.
+//! The relay's fingerprint index of documents 01 and 02 in plain safe Rust.
 //!
 //! The index keeps nothing of its own. Every call is lent two byte areas,
 //! memory and flash, of any length and any content: it judges them first, is
 //! refused without changing a byte, or works on them in place. No call
 //! allocates and none can panic.
 //!
-//! This crate is written from the document alone. It is the other side of a
+//! This crate is written from the documents alone. It is the other side of a
 //! comparison byte by byte with the proved engine and the baseline that the
 //! engine's speed is measured against.
 

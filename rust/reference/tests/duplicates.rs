@@ -63,13 +63,13 @@ fn entries_behind_the_count_have_no_effect_and_stay() {
 }
 
 #[test]
-fn zero_keys_and_zero_values_are_keys_and_values() {
+fn zero_is_a_key_and_the_largest_number_a_value() {
     let mut table = Table::new(G);
     assert_eq!(table.get(0), none(0));
-    assert_eq!(table.put(0, 0), Ok(0));
-    assert_eq!(table.get(0), found(0, 0, 0));
+    assert_eq!(table.put(0, 1), Ok(0));
+    assert_eq!(table.get(0), found(1, 0, 0));
     table.flush(0).unwrap();
-    assert_eq!(table.get(0), found(0, 1, 1));
+    assert_eq!(table.get(0), found(1, 1, 1));
     assert_eq!(table.put(0, u64::MAX), Ok(0));
     assert_eq!(table.get(0), found(u64::MAX, 0, 0));
 }

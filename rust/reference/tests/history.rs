@@ -81,6 +81,7 @@ impl History {
             self.keys.get(&key).map(|held| held.0),
             "get of {key}"
         );
+        assert_ne!(value, Some(0), "get of {key}");
         let live = self.live.get(&self.partition(key)).copied();
         assert!(reads <= live.unwrap_or(0), "get of {key}: {reads} reads");
     }
@@ -102,7 +103,7 @@ fn random_call(rng: &mut Rng, g: Geometry, keys: &[u64], weights: &Weights) -> C
     let Weights { put, del, flush } = *weights;
     let kind = rng.below(put + del + flush + 2);
     if kind < put {
-        Call::Put(rng.pick(keys), rng.next())
+        Call::Put(rng.pick(keys), rng.value())
     } else if kind < put + del {
         Call::Del(rng.pick(keys))
     } else if kind < put + del + flush {
@@ -123,6 +124,7 @@ fn check_refusal(call: Call, answer: Answer) {
             Call::Flush(_) => &[4, 15],
             Call::View(..) => &[17],
             Call::Format(_) => &[1],
+            Call::Put(_, 0) => &[21],
             Call::Put(..) | Call::Get(_) => &[],
         };
         assert!(

@@ -8,11 +8,12 @@ use reference::{format, Geometry, Refusal};
 type Call = fn(&mut Table) -> Result<(), Refusal>;
 
 const PUT: Call = |t| t.put(1, 1).map(drop);
+const PUT_0: Call = |t| t.put(1, 0).map(drop);
 const GET: Call = |t| t.get(1).map(drop);
 const DEL: Call = |t| t.del(1);
 const FLUSH: Call = |t| t.flush(0).map(drop);
 const VIEW: Call = |t| t.view(0, 0, 9).map(drop);
-const ALL: [Call; 5] = [PUT, GET, DEL, FLUSH, VIEW];
+const ALL: [Call; 6] = [PUT, PUT_0, GET, DEL, FLUSH, VIEW];
 
 #[test]
 fn format_checks_1_2_3() {
@@ -143,6 +144,27 @@ fn put_checks_12_before_16() {
     table.buffer(0, 0)[0] = 0;
     table.set_listed(0, 4);
     assert_eq!(table.refuses(PUT), (12, 0));
+}
+
+#[test]
+fn put_checks_21_before_12_and_16() {
+    // A list or a page that counts too much.
+    let mut table = Table::new(WIDE);
+    table.set_listed(0, 4);
+    assert_eq!(table.refuses(PUT), (12, 0));
+    assert_eq!(table.refuses(PUT_0), (21, 0));
+    table.set_listed(0, 0);
+    table.buffer(0, 1)[0] = 4;
+    assert_eq!(table.refuses(PUT), (12, 0));
+    assert_eq!(table.refuses(PUT_0), (21, 0));
+    // No flush number is left, and then another page counts too much.
+    table.fill_buffer(0, 1, &[(3, 1), (5, 1), (7, 1)]);
+    table.set_flushes(0, u32::MAX);
+    assert_eq!(table.refuses(PUT), (16, 0));
+    assert_eq!(table.refuses(PUT_0), (21, 0));
+    table.buffer(0, 0)[0] = 4;
+    assert_eq!(table.refuses(PUT), (12, 0));
+    assert_eq!(table.refuses(PUT_0), (21, 0));
 }
 
 #[test]

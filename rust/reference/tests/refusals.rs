@@ -266,7 +266,7 @@ fn refusal_13_counts_the_pages_read() {
 fn refusal_14_only_if_the_key_has_to_be_listed() {
     let mut table = Table::new(G);
     for key in 0..3 {
-        table.put(key, key).unwrap();
+        table.put(key, 7).unwrap();
     }
     table.flush(0).unwrap();
     table.put(1, 9).unwrap();
@@ -341,4 +341,21 @@ fn refusal_17_at_the_edges_of_the_live_numbers() {
     assert_eq!(refused(table.view(0, 1, u32::MAX - 3)), (17, 0));
     assert_eq!(refused(table.view(0, 1, u32::MAX - 2)), (13, 1));
     assert_eq!(refused(table.view(0, 1, u32::MAX)), (13, 1));
+}
+
+#[test]
+fn refusal_21_for_value_0_alone() {
+    let mut table = Table::new(G);
+    for key in [0, 1, u64::MAX] {
+        assert_eq!(table.refuses(|t| t.put(key, 0)), (21, 0));
+        for value in [1, 1 << 32, 1 << 63, u64::MAX] {
+            assert_eq!(table.put(key, value), Ok(0));
+            assert_eq!(table.get(key), found(value, 0, 0));
+        }
+        // Nor does it take the value of a key that has one.
+        assert_eq!(table.refuses(|t| t.put(key, 0)), (21, 0));
+    }
+    // The page is full: another key's put would flush, and a put of 0 doesn't.
+    assert_eq!(table.refuses(|t| t.put(2, 0)), (21, 0));
+    assert_eq!(table.put(2, 1), Ok(1));
 }

@@ -92,7 +92,7 @@ fn partition(rng: &mut Rng, g: Geometry) -> u32 {
 pub fn call(rng: &mut Rng, pair: &mut Pair, keys: &[u64]) -> Call {
     let g = pair.plain.g;
     match rng.below(100) {
-        0..=39 => Call::Put(rng.pick(keys), rng.next()),
+        0..=39 => Call::Put(rng.pick(keys), rng.value()),
         40..=64 => Call::Get(rng.pick(keys)),
         65..=79 => Call::Del(rng.pick(keys)),
         80..=87 => Call::Flush(partition(rng, g)),

@@ -3,7 +3,7 @@
 use std::collections::BTreeMap;
 use std::fmt;
 
-use crate::common::call::{Answer, Call};
+use crate::common::call::{call_index, Answer, Call};
 use crate::common::Rng;
 use crate::pair::Pair;
 
@@ -25,10 +25,12 @@ pub enum Outcome {
 
 use Outcome::*;
 
-/// What each call may come to: accepted, and refused.
-const OUTCOMES: [(&str, &[Outcome], &[u32]); 6] = [
+/// What each call may come to: accepted, and refused. A put of 0 is counted by
+/// what another value would have come to.
+const OUTCOMES: [(&str, &[Outcome], &[u32]); 7] = [
     ("format", &[Changed], &[1, 2, 3]),
     ("put", &[Changed, Wrote], &[2, 3, 11, 12, 16]),
+    ("put of 0", &[Changed, Wrote], &[2, 3, 11, 12, 16]),
     (
         "get",
         &[FoundInBuffer, FoundInBatch, NoneAtOnce, NoneRead],
@@ -61,9 +63,23 @@ fn outcome(answer: Answer) -> Outcome {
     }
 }
 
+/// What a put of 1 comes to, tried on a copy of the areas. A put of 0 is refused
+/// with 21 whatever that is, unless the areas hold no table.
+fn beside_zero(pair: &Pair, key: u64, answer: Answer) -> Outcome {
+    let mut copy = pair.plain.clone();
+    let other = call_index(Call::Put(key, 1), &mut copy.memory, &mut copy.flash);
+    let expected = match other {
+        Answer::Refused(2 | 3 | 11, _) => other,
+        _ => Answer::Refused(21, 0),
+    };
+    assert_eq!(answer, expected, "put of {key} 0");
+    outcome(other)
+}
+
 fn name(call: Call) -> &'static str {
     match call {
         Call::Format(_) => "format",
+        Call::Put(_, 0) => "put of 0",
         Call::Put(..) => "put",
         Call::Get(_) => "get",
         Call::Del(_) => "del",
@@ -86,12 +102,16 @@ impl Tally {
     /// Makes the call on both sides, which agree, and counts what it came to.
     pub fn count(&mut self, pair: &mut Pair, rng: &mut Rng, call: Call) {
         let answer = pair.call(rng, call);
+        let outcome = match call {
+            Call::Put(key, 0) => beside_zero(pair, key, answer),
+            _ => outcome(answer),
+        };
         self.calls += 1;
-        *self.seen.entry((name(call), outcome(answer))).or_default() += 1;
+        *self.seen.entry((name(call), outcome)).or_default() += 1;
     }
 
     /// What must come up has come up, and nothing that may not, nor anything
-    /// that document 01 does not have the call come to.
+    /// that the papers do not have the call come to.
     pub fn check(&self, must: impl Fn(&str, Outcome) -> bool, may: impl Fn(&str, Outcome) -> bool) {
         for (call, outcome) in outcomes() {
             let seen = self.seen.contains_key(&(call, outcome));

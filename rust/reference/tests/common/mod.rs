@@ -66,6 +66,15 @@ impl Rng {
         keys
     }
 
+    /// A value, now and then 0, which no put takes.
+    pub fn value(&mut self) -> u64 {
+        if self.one_in(12) {
+            0
+        } else {
+            self.next()
+        }
+    }
+
     pub fn bytes(&mut self, number: usize) -> Vec<u8> {
         (0..number).map(|_| self.next() as u8).collect()
     }

@@ -1,4 +1,4 @@
-//! Document 01 written out a second time, without any care for speed: a call
+//! The papers written out a second time, without any care for speed: a call
 //! takes a partition apart into plain lists, changes these, and puts
 //! everything together again.
 
@@ -24,7 +24,7 @@ fn check(holds: bool, number: u32) -> Result<(), Answer> {
     }
 }
 
-/// What the call answers and what it leaves, by document 01.
+/// What the call answers and what it leaves, by the papers.
 pub fn call_oracle(call: Call, memory: &mut [u8], flash: &mut [u8]) -> Answer {
     let answer = match call {
         Call::Format(g) => format(g, memory, flash),
@@ -112,6 +112,7 @@ fn put(
     key: u64,
     value: u64,
 ) -> Result<Answer, Answer> {
+    check(value != 0, 21)?;
     let (t, q) = home(g, key);
     let mut partition = read_partition(g, memory, t);
     check(
