@@ -9,7 +9,7 @@
  * Linux; it needs the C library's memmove and memset alone.
  *
  * Every call is proved, on areas of any length and content, to answer and to
- * leave exactly what document 01 says. A refused call has changed no byte of
+ * leave exactly what documents 01 and 02 say. A refused call has changed no byte of
  * either area.
  *
  * What the caller owes, since no C compiler checks it:
@@ -62,7 +62,8 @@ enum { MX_DONE = 0, MX_FOUND = 1, MX_NONE = 2, MX_REFUSED = 3 };
  * when its condition holds and no earlier one of its call does, and at no other
  * time. mx_format checks 1, 2, 3. The others check 2 (below 32 bytes), 11,
  * 2 (the need), 3, 4, 12 and then their own: mx_put 16; mx_get 13 as it reads;
- * mx_del 14; mx_flush 15, 16; mx_view 17, 13. Only 13 tells reads above 0.
+ * mx_del 14; mx_flush 15, 16; mx_view 17, 13. Only mx_put checks 21, behind 3
+ * and before 12. Only 13 tells reads above 0.
  */
 enum {
     /* from the arguments */
@@ -70,6 +71,7 @@ enum {
     MX_REFUSED_SHORT_MEMORY = 2, /* all: memory is shorter than 32 bytes, or than the need */
     MX_REFUSED_SHORT_FLASH = 3,  /* all: flash is shorter than the need */
     MX_REFUSED_OUT_OF_RANGE = 4, /* mx_flush, mx_view: partition not below 2^s; mx_view: page not below `pages` */
+    MX_REFUSED_NO_POSITION = 21, /* mx_put: the value is 0, where the sound store has nothing */
 
     /* from what the areas hold */
     MX_REFUSED_OPENING = 11,       /* all but mx_format: memory does not open with allowed numbers: it
@@ -123,9 +125,11 @@ mx_answer mx_format(uint8_t *memory, size_t memory_len, const uint8_t *flash, si
  * Gives the key the value. Where the key is new to its buffer page and that
  * page is full, its partition is flushed first: the buffer becomes a batch in
  * flash. Where `kept` batches are live already the oldest one goes, and with it
- * its keys that were not put again since. Every key and every value is allowed.
+ * its keys that were not put again since. Every key is allowed, and every value
+ * but 0: the sound store has nothing at position 0, and from mx_format on no
+ * mx_get shows it.
  *
- * Answers MX_DONE with the pages written, or refuses with 2, 3, 11, 12 or 16.
+ * Answers MX_DONE with the pages written, or refuses with 2, 3, 11, 12, 16 or 21.
  */
 mx_answer mx_put(uint8_t *memory, size_t memory_len, uint8_t *flash, size_t flash_len, uint64_t key,
                  uint64_t value);
