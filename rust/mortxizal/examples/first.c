@@ -74,6 +74,7 @@ int main(void)
     show("put 2", put(2, 20));
     show("put 3", put(3, 30));
     show("put 4", put(4, 40)); /* the page is full: a flush, then the put */
+    show("put 5", put(5, 0)); /* the sound store has nothing at position 0 */
     show("get 2", get(2));
     show("get 4", get(4));
     show("del 2", del(2));

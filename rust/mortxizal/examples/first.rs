@@ -70,6 +70,8 @@ pub fn run(output: &mut impl Write) -> Result<(), Box<dyn std::error::Error>> {
     for key in 1..=4 {
         writeln!(output, "put {key}: {}", pages(index.put(key, 10 * key)))?;
     }
+    // The sound store has nothing at position 0.
+    writeln!(output, "put 5: {}", pages(index.put(5, 0)))?;
     for key in [2, 4] {
         writeln!(output, "get {key}: {}", lookup(index.get(key)))?;
     }
