@@ -3,8 +3,8 @@ use Prim.Native.Nat.{ℕ}
 use Prim.Native.String.{String}
 use mathlib.Core.Path.{_≡_}
 use mathlib.Core.List.{List, [], _∷_, _++_}
-use Rattle.model.specs.declared.Geometry.{Geometry}
 use lib.ListN.{take}
+use Rattle.model.specs.declared.Geometry.{Geometry}
 use Rattle.model.specs.Bytes.{write, zeros}
 use Rattle.model.specs.Geometry.{geometry, G, capacity, memoryNeed, flashNeed}
 use Rattle.model.specs.Keys.{mixed, bitOf}

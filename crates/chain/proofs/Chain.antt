@@ -8,7 +8,7 @@ use Rattle.history.specs.History.{heard, events}
 use Rattle.history.specs.Claim.{isRefused, Demand3}
 use Rattle.history.proofs.Demand.{demand3}
 use Rattle.answers.specs.Performs.{areas}
-use Rattle.index.specs.Chain.{Performed, none, next, heardOf, CallsKeepDemand3}
+use Rattle.chain.specs.Chain.{Performed, none, next, heardOf, CallsKeepDemand3}
 
 chain-answers : {cs : List Call} {m f m′ f′ : List ℕ} {rs : List Answer} → Performed cs m f rs m′ f′ → rs ≡ replies (areas m f) cs
 unfolding replies
