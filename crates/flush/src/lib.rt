@@ -1,16 +1,10 @@
-// The flush of one partition: its buffer pages become a batch in flash.
-ghost use mathlib.Core.Bool.{true};
+// The flush: decided from one partition, and as a call on whole areas.
 ghost use mathlib.Core.Path.{_≡_};
-ghost use Prim.Native.Nat.{_≤_, _<_};
-ghost use lib.ListN.{length};
-ghost use Rattle.model.specs.Bytes.{within};
-ghost use Rattle.model.specs.Geometry.{allowed, partitions, stride, partitionAt, memoryNeed, flashNeed};
-ghost use Rattle.model.specs.Partition.{partition, flushesOf};
-ghost use Rattle.model.specs.Refusals.{lastFlush};
-ghost use Rattle.model.specs.Format.{emptiedPages};
-ghost use Rattle.model.specs.Flush.{flushChecks, flushed, withBatch};
+ghost use Prim.Native.Nat.{_<_};
+ghost use Rattle.model.specs.Geometry.{partitions};
+ghost use Rattle.model.specs.Flush.{flushChecks};
 ghost use Rattle.model.specs.Calls.{Call};
-ghost use Rattle.partition.specs.Ready.{Whole, Flushable};
+ghost use Rattle.partition.specs.Ready.{Whole};
 ghost use Rattle.answers.specs.Told as told;
 ghost use Rattle.answers.specs.Performs.{Performs};
 ghost use Rattle.opening.specs.Opened.{IsTable};
@@ -54,57 +48,6 @@ pub fn decide(part: &[u8], g: Geometry, t: u32) -> Verdict
     Verdict::Accepted
 }
 
-// The batch is written whole: each buffer page goes into its slot's page, with the new flush number, and is emptied while it is at hand.
-fn move_batch(part: &mut [u8], flash: &mut [u8], g: Geometry, t: u32)
-    requires { ⌜ Whole g (now part) ⌝ }
-    requires { ⌜ t < partitions g ⌝ }
-    requires { ⌜ flushesOf (now part) < lastFlush ⌝ }
-    requires { ⌜ flashNeed g ≤ length (now flash) ⌝ }
-    ensures { λ _. ⌜ (now (part .exit) ≡ emptiedPages g t (g .pages) (now (part .entry))) × (now (flash .exit) ≡ withBatch g t (now (part .entry)) (g .pages) (now (flash .entry))) ⌝ }
-{
-    let n = Head::read(part).flushes + 1;
-    let j = geometry::slot_of(g, n);
-    let pages = g.pages;
-    let size = g.page as usize;
-    let mut q = 0;
-    while q < pages {
-        let at = geometry::slot_page_at(g, t, j, q);
-        let from = geometry::buffer_at(g, q);
-        page::copy_numbered(flash, at, part, from, size, n);
-        buffer::empty_page(part, g, t, q);
-        q += 1;
-    }
-}
-
-// The partition and flash after the flush.
-pub fn apply(part: &mut [u8], flash: &mut [u8], g: Geometry, t: u32)
-    requires { ⌜ Whole g (now part) ⌝ }
-    requires { ⌜ Flushable g t (now part) ⌝ }
-    requires { ⌜ flashNeed g ≤ length (now flash) ⌝ }
-    ensures { λ _. ⌜ (now (part .exit) ≡ flushed g t (now (part .entry))) × (now (flash .exit) ≡ withBatch g t (now (part .entry)) (g .pages) (now (flash .entry))) ⌝ }
-{
-    let head = Head::read(part);
-    let flushes = head.flushes;
-    let listed = head.listed;
-    filter::make(part, g, geometry::slot_of(g, flushes + 1));
-    let stay = list::expire(part, g, flushes, listed);
-    move_batch(part, flash, g, t);
-    head::put_back(part, head.flushed().unlisted(listed - stay as u32));
-}
-
-// Both areas after the flush of partition t.
-pub fn apply_at(memory: &mut [u8], flash: &mut [u8], g: Geometry, t: u32)
-    requires { ⌜ allowed g ≡ true ⌝ }
-    requires { ⌜ memoryNeed g ≤ length (now memory) ⌝ }
-    requires { ⌜ Flushable g t (partition g t (now memory)) ⌝ }
-    requires { ⌜ flashNeed g ≤ length (now flash) ⌝ }
-    ensures { λ _. ⌜ (now (memory .exit) ≡ within (partitionAt g t) (stride g) (flushed g t) (now (memory .entry))) × (now (flash .exit) ≡ withBatch g t (partition g t (now (memory .entry))) (g .pages) (now (flash .entry))) ⌝ }
-{
-    let a = geometry::partition_at(g, t);
-    let e = a + geometry::partition_size(g);
-    apply(&mut memory[a..e], flash, g, t);
-}
-
 // The call on a table: 4, 12, 15, 16, or the pages of the batch.
 pub fn call(memory: &mut [u8], flash: &mut [u8], g: Geometry, t: u32) -> Written
     requires { ⌜ IsTable g (now memory) (now flash) ⌝ }
@@ -119,7 +62,7 @@ pub fn call(memory: &mut [u8], flash: &mut [u8], g: Geometry, t: u32) -> Written
     match decide(partition::part_of(memory, g, t), g, t) {
         Verdict::Refused(refusal) => Written::Refused(refusal),
         Verdict::Accepted => {
-            apply_at(memory, flash, g, t);
+            flushing::apply_at(memory, flash, g, t);
             Written::Done(g.pages)
         }
     }

@@ -48,7 +48,7 @@ pub fn read_through(part: &[u8], flash: &[u8], g: Geometry, key: u64) -> Answer
         }
         reads += 1;
         let at = geometry::slot_page_at(g, t, slot, q);
-        if !page::is_expected_at(flash, at, g, t, n, q) {
+        if !batch::is_expected_at(flash, at, g, t, n, q) {
             return Answer::Refused(Refusal { number: 13, reads });
         }
         let entries = words::u16_at(flash, at) as usize;

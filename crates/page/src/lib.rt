@@ -1,14 +1,10 @@
 // One page: a head of 16 bytes, then its entries, the records 1 to count.
-ghost use mathlib.Core.Bool.{true};
 ghost use mathlib.Core.Path.{_≡_};
-ghost use Prim.Native.Nat.{_+_, _*_, _≤_, _<_};
+ghost use Prim.Native.Nat.{_+_, _*_, _≤_};
 ghost use lib.ListN.{length};
 ghost use mathlib.Core.Option.{none};
-ghost use Rattle.model.specs.Bytes.{mid, within};
-ghost use Rattle.model.specs.Geometry.{allowed};
-ghost use Rattle.model.specs.Page.{countOf, valueAt, searched, appended, replaced, removed, stored, without, emptied, numbered, expected};
+ghost use Rattle.model.specs.Page.{countOf, valueAt, searched, appended, replaced, removed, stored, without, emptied};
 ghost use Rattle.records.specs.Found.{foundAt};
-use model::Geometry;
 use records::Found;
 
 pub fn count(page: &[u8]) -> usize
@@ -95,46 +91,4 @@ pub fn empty(page: &mut [u8], number: u16, partition: u16)
     words::zero(page, 0, n);
     words::write_u16(page, 2, number);
     words::write_u16(page, 4, partition);
-}
-
-// The page of `size` bytes at `from` in `src` stands at `at` in `dst`, with its flush number.
-pub fn copy_numbered(dst: &mut [u8], at: usize, src: &[u8], from: usize, size: usize, flush: u32)
-    requires { ⌜ at + size ≤ length (now dst) ⌝ }
-    requires { ⌜ from + size ≤ length (now src) ⌝ }
-    requires { ⌜ 16 ≤ size ⌝ }
-    ensures { λ _. ⌜ now (dst .exit) ≡ within at size (λ _. numbered flush (mid from size (now (src .entry)))) (now (dst .entry)) ⌝ }
-{
-    words::copy(dst, at, src, from, size);
-    words::write_u32(dst, at + 8, flush);
-}
-
-// Is the head that of page `number` of batch `batch` of `partition`? `&` asks all five without a branch.
-fn is_expected(page: &[u8], g: Geometry, partition: u32, batch: u32, number: u32) -> bool
-    requires { ⌜ 16 ≤ length (now page) ⌝ }
-    requires { ⌜ 32 ≤ g .page ⌝ }
-    ensures { λ r. ⌜ r ≡ expected g partition batch number (now (page .entry)) ⌝ }
-{
-    let entries = (g.page / 16 - 1) as usize;
-    (count(page) <= entries)
-        & (words::u16_at(page, 2) as u32 == number)
-        & (words::u16_at(page, 4) as u32 == partition)
-        & (words::u16_at(page, 6) == 0)
-        & (words::u32_at(page, 8) == batch)
-}
-
-// The same of the page that begins at `at` in flash.
-pub fn is_expected_at(
-    flash: &[u8],
-    at: usize,
-    g: Geometry,
-    partition: u32,
-    batch: u32,
-    number: u32,
-) -> bool
-    requires { ⌜ allowed g ≡ true ⌝ }
-    requires { ⌜ at + g .page ≤ length (now flash) ⌝ }
-    ensures { λ r. ⌜ r ≡ expected g partition batch number (mid at (g .page) (now (flash .entry))) ⌝ }
-{
-    let e = at + g.page as usize;
-    is_expected(&flash[at..e], g, partition, batch, number)
 }

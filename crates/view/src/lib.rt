@@ -58,7 +58,7 @@ fn locate_in_flash(flash: &[u8], g: Geometry, t: u32, q: u32, n: u32) -> Viewed
     ensures { λ r. ⌜ told.viewed r ≡ pageShown false g t q n (now (flash .entry)) ⌝ }
 {
     let at = geometry::slot_page_at(g, t, geometry::slot_of(g, n), q);
-    if page::is_expected_at(flash, at, g, t, n, q) {
+    if batch::is_expected_at(flash, at, g, t, n, q) {
         return Viewed::Flash(at, g.page as usize);
     }
     Viewed::Refused(Refusal {

@@ -11,8 +11,8 @@ use Rattle.records.proofs.Telling.{told-at}
 use Rattle.partition.proofs.Inside.{list-inside}
 use native.Mathlib.Omega.{arith}
 use borrow.Author.Needs.{needs}
-use Rattle.put.proofs.unlist.Statement.{statement}
-use Rattle.put.proofs.unlist.Tie as tie
+use Rattle.storing.proofs.unlist.Statement.{statement}
+use Rattle.storing.proofs.unlist.Tie as tie
 
 -- where the head was read, from where an entry is found
 abbrev at-read : tie.After-known-told → tie.After-read

@@ -13,9 +13,9 @@ use Rattle.model.proofs.Checks.{pages-fit}
 use Rattle.head.specs.Heads.{asHead}
 use Rattle.head.proofs.Fields.{flushes-is, listed-is}
 use Rattle.partition.proofs.Inside.{list-inside}
-use Rattle.flush.proofs.Preparing.{stay-at-most, filter-made, list-shortened, stay-as-were, same-head, same-batch, all-flushed}
-use Rattle.flush.proofs.apply.Statement.{statement}
-use Rattle.flush.proofs.apply.Tie as tie
+use Rattle.flushing.proofs.Preparing.{stay-at-most, filter-made, list-shortened, stay-as-were, same-head, same-batch, all-flushed}
+use Rattle.flushing.proofs.apply.Statement.{statement}
+use Rattle.flushing.proofs.apply.Tie as tie
 
 -- ---- the steps that the facts go back to
 abbrev start : tie.After-read → tie.Start

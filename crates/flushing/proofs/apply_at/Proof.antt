@@ -4,8 +4,8 @@ use borrow.Author.Needs.{needs}
 use Rattle.model.specs.Flush.{flushed}
 use Rattle.model.proofs.Lengths.{length-flushed}
 use Rattle.partition.proofs.Lending.{Lent, lends}
-use Rattle.flush.proofs.apply_at.Statement.{statement}
-use Rattle.flush.proofs.apply_at.Tie as tie
+use Rattle.flushing.proofs.apply_at.Statement.{statement}
+use Rattle.flushing.proofs.apply_at.Tie as tie
 
 lent : (c : tie.After-partition-size) → let a = c .before .before .before .before .args in Lent (a .g) (a .t) (a .memory .now) (c .before .partition-at .result) (c .partition-size .result)
 lent c = let s = c .before .before .before .before in lends _ _ (s .pre .0) (s .pre .1 .0) _ (s .pre .1 .1 .0 .below) _ _ (c .before .partition-at .ensures) (c .partition-size .ensures)

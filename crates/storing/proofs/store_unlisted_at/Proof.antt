@@ -6,8 +6,8 @@ use Rattle.model.specs.Keys.{partitionOf}
 use Rattle.model.specs.Put.{unlisted, buffered}
 use Rattle.model.proofs.Lengths.{length-unlisted, length-buffered}
 use Rattle.partition.proofs.Lending.{Lent, lends-key}
-use Rattle.put.proofs.store_unlisted_at.Statement.{statement}
-use Rattle.put.proofs.store_unlisted_at.Tie as tie
+use Rattle.storing.proofs.store_unlisted_at.Statement.{statement}
+use Rattle.storing.proofs.store_unlisted_at.Tie as tie
 
 lent : (c : tie.After-partition-size) → let a = c .before .before .before .args in Lent (a .g) (partitionOf (a .g) (a .key)) (a .memory .now) (c .before .key-partition-at .result) (c .partition-size .result)
 lent c = let s = c .before .before .before in lends-key _ _ (s .pre .0) (s .pre .1 .0) (s .args .key) (omega arith) _ _ (c .before .key-partition-at .ensures) (c .partition-size .ensures)

@@ -13,9 +13,9 @@ use Rattle.model.proofs.Partitions.{emptied-none, emptied-turn}
 use Rattle.model.proofs.PartitionsFlash.{batch-none}
 use Rattle.head.proofs.Fields.{flushes-is}
 use Rattle.partition.proofs.Inside.{list-inside, page-inside}
-use Rattle.flush.proofs.Moving.{batch-turn}
-use Rattle.flush.proofs.move_batch.Statement.{statement}
-use Rattle.flush.proofs.move_batch.Tie as tie
+use Rattle.flushing.proofs.Moving.{batch-turn}
+use Rattle.flushing.proofs.move_batch.Statement.{statement}
+use Rattle.flushing.proofs.move_batch.Tie as tie
 
 abbrev Inv-loop : tie.InvT-loop
 Inv-loop part₀ flash₀ g t n j pages size q₀ part flash q =

@@ -4,8 +4,8 @@ use Rattle.model.specs.Refusals.{headOverfull}
 use Rattle.model.proofs.Checks.{key-fits}
 use Rattle.model.proofs.PartitionsCalls.{laid-buffered}
 use borrow.Author.Needs.{needs}
-use Rattle.put.proofs.store_unlisted.Statement.{statement}
-use Rattle.put.proofs.store_unlisted.Tie as tie
+use Rattle.storing.proofs.store_unlisted.Statement.{statement}
+use Rattle.storing.proofs.store_unlisted.Tie as tie
 
 unlist-requires : tie.Need-unlist-requires
 unlist-requires c κs =

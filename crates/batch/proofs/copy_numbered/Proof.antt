@@ -5,8 +5,8 @@ use Rattle.model.specs.Page.{numbered}
 use Rattle.model.specs.Bytes.{mid}
 use native.Mathlib.Omega.{arith}
 use borrow.Author.Needs.{needs}
-use Rattle.page.proofs.copy_numbered.Statement.{statement}
-use Rattle.page.proofs.copy_numbered.Tie as tie
+use Rattle.batch.proofs.copy_numbered.Statement.{statement}
+use Rattle.batch.proofs.copy_numbered.Tie as tie
 
 returns : tie.Need-returns
 unfolding numbered

@@ -4,8 +4,8 @@ use borrow.Author.Needs.{needs}
 use native.Mathlib.Nat.{add-sub-cancel-left}
 use Rattle.model.proofs.Parts.{length-lent}
 use Rattle.model.proofs.Sizes.{sizes}
-use Rattle.page.proofs.is_expected_at.Statement.{statement}
-use Rattle.page.proofs.is_expected_at.Tie as tie
+use Rattle.batch.proofs.is_expected_at.Statement.{statement}
+use Rattle.batch.proofs.is_expected_at.Tie as tie
 
 is-expected-requires : tie.Need-is-expected-requires
 is-expected-requires c κs = let z = sizes _ (c .before .before .before .pre .0) in rw (length-lent _ _ _ (c .before .before .before .pre .1)) (omega arith)

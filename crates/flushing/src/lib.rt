@@ -1,0 +1,65 @@
+// What a flush writes: the partition's buffer pages become a batch in flash.
+ghost use mathlib.Core.Bool.{true};
+ghost use mathlib.Core.Path.{_≡_};
+ghost use Prim.Native.Nat.{_≤_, _<_};
+ghost use lib.ListN.{length};
+ghost use Rattle.model.specs.Bytes.{within};
+ghost use Rattle.model.specs.Geometry.{allowed, partitions, stride, partitionAt, memoryNeed, flashNeed};
+ghost use Rattle.model.specs.Partition.{partition, flushesOf};
+ghost use Rattle.model.specs.Refusals.{lastFlush};
+ghost use Rattle.model.specs.Format.{emptiedPages};
+ghost use Rattle.model.specs.Flush.{flushed, withBatch};
+ghost use Rattle.partition.specs.Ready.{Whole, Flushable};
+use head::Head;
+use model::Geometry;
+
+// The batch is written whole: each buffer page goes into its slot's page, with the new flush number, and is emptied while it is at hand.
+fn move_batch(part: &mut [u8], flash: &mut [u8], g: Geometry, t: u32)
+    requires { ⌜ Whole g (now part) ⌝ }
+    requires { ⌜ t < partitions g ⌝ }
+    requires { ⌜ flushesOf (now part) < lastFlush ⌝ }
+    requires { ⌜ flashNeed g ≤ length (now flash) ⌝ }
+    ensures { λ _. ⌜ (now (part .exit) ≡ emptiedPages g t (g .pages) (now (part .entry))) × (now (flash .exit) ≡ withBatch g t (now (part .entry)) (g .pages) (now (flash .entry))) ⌝ }
+{
+    let n = Head::read(part).flushes + 1;
+    let j = geometry::slot_of(g, n);
+    let pages = g.pages;
+    let size = g.page as usize;
+    let mut q = 0;
+    while q < pages {
+        let at = geometry::slot_page_at(g, t, j, q);
+        let from = geometry::buffer_at(g, q);
+        batch::copy_numbered(flash, at, part, from, size, n);
+        buffer::empty_page(part, g, t, q);
+        q += 1;
+    }
+}
+
+// The partition and flash after the flush.
+pub fn apply(part: &mut [u8], flash: &mut [u8], g: Geometry, t: u32)
+    requires { ⌜ Whole g (now part) ⌝ }
+    requires { ⌜ Flushable g t (now part) ⌝ }
+    requires { ⌜ flashNeed g ≤ length (now flash) ⌝ }
+    ensures { λ _. ⌜ (now (part .exit) ≡ flushed g t (now (part .entry))) × (now (flash .exit) ≡ withBatch g t (now (part .entry)) (g .pages) (now (flash .entry))) ⌝ }
+{
+    let head = Head::read(part);
+    let flushes = head.flushes;
+    let listed = head.listed;
+    filter::make(part, g, geometry::slot_of(g, flushes + 1));
+    let stay = list::expire(part, g, flushes, listed);
+    move_batch(part, flash, g, t);
+    head::put_back(part, head.flushed().unlisted(listed - stay as u32));
+}
+
+// Both areas after the flush of partition t.
+pub fn apply_at(memory: &mut [u8], flash: &mut [u8], g: Geometry, t: u32)
+    requires { ⌜ allowed g ≡ true ⌝ }
+    requires { ⌜ memoryNeed g ≤ length (now memory) ⌝ }
+    requires { ⌜ Flushable g t (partition g t (now memory)) ⌝ }
+    requires { ⌜ flashNeed g ≤ length (now flash) ⌝ }
+    ensures { λ _. ⌜ (now (memory .exit) ≡ within (partitionAt g t) (stride g) (flushed g t) (now (memory .entry))) × (now (flash .exit) ≡ withBatch g t (partition g t (now (memory .entry))) (g .pages) (now (flash .entry))) ⌝ }
+{
+    let a = geometry::partition_at(g, t);
+    let e = a + geometry::partition_size(g);
+    apply(&mut memory[a..e], flash, g, t);
+}
