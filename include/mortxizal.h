@@ -9,8 +9,8 @@
  * Linux; it needs the C library's memmove and memset alone.
  *
  * Every call is proved, on areas of any length and content, to answer and to
- * leave exactly what documents 01 and 02 say. A refused call has changed no byte of
- * either area.
+ * leave exactly what documents 01 and 02 say. A refused call has changed no
+ * byte of either area.
  *
  * What the caller owes, since no C compiler checks it:
  *   - each area is as long as its length says, and may be read, and written
@@ -129,7 +129,8 @@ mx_answer mx_format(uint8_t *memory, size_t memory_len, const uint8_t *flash, si
  * but 0: the sound store has nothing at position 0, and from mx_format on no
  * mx_get shows it.
  *
- * Answers MX_DONE with the pages written, or refuses with 2, 3, 11, 12, 16 or 21.
+ * Answers MX_DONE with the pages written, or refuses with 2, 3, 11, 12, 16 or
+ * 21.
  */
 mx_answer mx_put(uint8_t *memory, size_t memory_len, uint8_t *flash, size_t flash_len, uint64_t key,
                  uint64_t value);

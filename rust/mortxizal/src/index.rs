@@ -132,7 +132,7 @@ impl<'a> Index<'a> {
     /// again since.
     ///
     /// Every key is allowed, and every value but 0: the sound store has nothing
-    /// at position 0, and no get shows it.
+    /// at position 0, and from a format on no get shows it.
     ///
     /// ```
     /// # use mortxizal::{Geometry, Index, Refused};
