@@ -7,4 +7,4 @@ use Rattle.cases.specs.Table.{rows, Agree, allFigures, session, formatti
 
 pub agree : Agree rows
 unfolding computing rows Agree allFigures session formatting puttingZero figures past leading numberFrom figure putLine getLine delLine flushLine formatLine callOf answerText linePrints lineLeaves linesOf zeroArea linesPrint
-agree = (refl, (refl, (refl, (refl, (refl, (refl, (refl, (refl, (refl, (refl, (refl, (refl, (refl, (refl, (refl, (refl, (refl, (refl, (refl, (refl, tt))))))))))))))))))))
+agree = (refl, (refl, (refl, (refl, (refl, (refl, (refl, (refl, (refl, (refl, (refl, (refl, (refl, (refl, (refl, (refl, (refl, (refl, (refl, (refl, (refl, (refl, (refl, tt)))))))))))))))))))))))

@@ -2,13 +2,14 @@
 use Prim.Native.Nat.{ℕ}
 use Prim.Native.String.{String}
 use mathlib.Core.Path.{_≡_}
-use mathlib.Core.List.{List, [], _∷_, _++_}
+use mathlib.Core.List.{List, [], _∷_, _++_, map}
 use lib.ListN.{take}
 use Rattle.model.specs.declared.Geometry.{Geometry}
 use Rattle.model.specs.Bytes.{write, zeros}
 use Rattle.model.specs.Geometry.{geometry, G, capacity, memoryNeed, flashNeed}
-use Rattle.model.specs.Keys.{mixed, bitOf}
-use Rattle.model.specs.Partition.{listedOf}
+use Rattle.model.specs.Keys.{mixed, pageOf, bitOf}
+use Rattle.model.specs.Page.{countOf}
+use Rattle.model.specs.Partition.{listedOf, bufferOf}
 use Rattle.model.specs.Answers.{Areas, Answer, done, found, absent, shown, refused}
 use Rattle.model.specs.Text.{text}
 use Rattle.model.specs.Session.{linesOf, programAreas, linesPrint}
@@ -72,6 +73,18 @@ formatting g m f = allFigures (replies (areas m f) (format g ∷ []))
 unfoldable pub puttingZero : (List ℕ → List ℕ) → ℕ → List (List ℕ)
 puttingZero change f = allFigures (replies (record { memory = change (run (areas 144 128) (format G ∷ []) .memory); flash = zeros f }) (put 1 0 ∷ []))
 
+-- six keys of one stream: the low 16 bits have its number, and only the others differ
+abbrev pub stream : List ℕ
+stream = 0x9e3779b97f4a0007 ∷ 0x3c6ef372fe940007 ∷ 0xdaa66d2c7ddf0007 ∷ 0x78dde6e5fd290007 ∷ 0x1715609f7c740007 ∷ 0xb54cda58fbbe0007 ∷ []
+
+-- a fresh table of G with four pages, and these keys put into it
+abbrev pub streamed : List Call
+streamed = format (withPages 4) ∷ map (λ k. put k 1) stream
+
+-- the entries of buffer page q then
+abbrev pub streamedIn : ℕ → ℕ
+streamedIn q = countOf (bufferOf (withPages 4) (partitionIn (run (areas 336 512) streamed) 0) q)
+
 -- the worked session
 abbrev pub input : String
 input = "(format (parts 0) (page 64) (pages 1) (kept 2) (bits 64) (hashes 3) (list 1))\n(put 1 10)\n(put 2 20)\n(put 3 30)\n(put 0 40)\n(get 2)\n(del 2)\n(get 2)\n(del 3)\n(get 3)\n(flush 0)\n(get 0)\n"
@@ -130,6 +143,11 @@ rows =
     (refusedWith 2 0 ∷ refusedWith 11 0 ∷ refusedWith 2 0 ∷ refusedWith 3 0 ∷ [])
     -- before 12, of the list and of the key's page
     ∷ answers (puttingZero (write 4 2 36) 128 ++ puttingZero (write 2 4 80) 128) (refusedWith 21 0 ∷ refusedWith 21 0 ∷ [])
+    -- job 2: the pages of keys that differ only above bit 16
+    ∷ numbers (map (pageOf (withPages 4)) stream) (3 ∷ 2 ∷ 0 ∷ 1 ∷ 3 ∷ 1 ∷ [])
+    -- three fill a page, and six go into four pages without a flush
+    ∷ answers (allFigures (replies (areas 336 512) streamed)) (ok 0 ∷ ok 0 ∷ ok 0 ∷ ok 0 ∷ ok 0 ∷ ok 0 ∷ ok 0 ∷ [])
+    ∷ numbers (map streamedIn (0 ∷ 1 ∷ 2 ∷ 3 ∷ [])) (1 ∷ 2 ∷ 1 ∷ 2 ∷ [])
     ∷ []
 
 -- every row agrees

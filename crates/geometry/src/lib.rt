@@ -175,14 +175,6 @@ pub fn key_partition_at(g: Geometry, key: u64) -> usize
     partition_at(g, partition_of(g, key))
 }
 
-// The key's low 16 bits, modulo a power of two.
-pub fn page_of(g: Geometry, key: u64) -> u32
-    requires { ⌜ allowed g ≡ true ⌝ }
-    ensures { λ r. ⌜ r ≡ pageOf g key ⌝ }
-{
-    (key % 65536) as u32 & (g.pages - 1)
-}
-
 // Marsaglia's xorshift.
 pub fn mix(key: u64) -> u64
     ensures { λ r. ⌜ r ≡ mixed key ⌝ }
@@ -190,4 +182,13 @@ pub fn mix(key: u64) -> u64
     let a = key ^ (key << 13);
     let b = a ^ (a >> 7);
     b ^ (b << 17)
+}
+
+// Bits 48 to 63 of the mixed key, modulo a power of two.
+pub fn page_of(g: Geometry, key: u64) -> u32
+    requires { ⌜ allowed g ≡ true ⌝ }
+    ensures { λ r. ⌜ r ≡ pageOf g key ⌝ }
+{
+    let x = mix(key);
+    (x >> 48) as u32 & (g.pages - 1)
 }

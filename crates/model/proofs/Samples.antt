@@ -1,6 +1,6 @@
 -- Definitions computed at a few numbers: what no law here says of them.
 use mathlib.Core.Path.{_≡_, refl}
-use Prim.Native.Nat.{_^_}
+use Prim.Native.Nat.{_+_, _^_}
 use Rattle.model.specs.Bytes.{word, bytesOf, write, zeros}
 use Rattle.model.specs.Search.{firstFrom}
 use Rattle.model.specs.Geometry.{geometry, G, filterAt, bufferAt, stride, partitionAt, memoryNeed, slotPageAt, flashNeed}
@@ -32,9 +32,9 @@ bits : (bitOf G (mixed 1) 0 ≡ 1) × (bitOf G (mixed 1) 1 ≡ 2) × (bitOf G (m
 unfolding mixed bitOf
 bits = (refl, refl, refl)
 
--- the key's top bit, and its low 16 bits mod 4
-places : (partitionOf H (2 ^ 63) ≡ 1) × (pageOf H 65543 ≡ 3)
-unfolding partitionOf pageOf
+-- the key's top bit; and its bit 19, which the mixing takes to bit 49
+places : (partitionOf H (2 ^ 63) ≡ 1) × (pageOf H (2 ^ 19 + 7) ≡ 2)
+unfolding partitionOf pageOf mixed
 places = (refl, refl)
 
 opening : geometryOf (withOpening H (zeros 32)) ≡ H

@@ -201,7 +201,7 @@ module _ (g : Geometry) (ok : allowed g ≡ true) where
 
   pub page-of-lt : (k : ℕ) → pageOf g k < g .pages
   unfolding pageOf
-  page-of-lt k = mod-lt (k % 65536) (sizes g ok .pages-min)
+  page-of-lt k = mod-lt _ (sizes g ok .pages-min)
 
   pub slot-lt : (n : ℕ) → slot g n < g .kept
   slot-lt n = mod-lt (n - 1) (sizes g ok .kept-min)

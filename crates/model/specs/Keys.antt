@@ -7,10 +7,6 @@ use Rattle.model.specs.declared.Geometry.{Geometry}
 unfoldable pub partitionOf : Geometry → ℕ → ℕ
 partitionOf g k = k / 2 ^ (64 - g .parts)
 
--- the key's low 16 bits mod Q
-unfoldable pub pageOf : Geometry → ℕ → ℕ
-pageOf g k = k % 65536 % g .pages
-
 -- Marsaglia's xorshift on 64 bits: left 13, right 7, left 17
 abbrev pub xorLeft : ℕ → ℕ → ℕ
 xorLeft n x = bitXor x (x * 2 ^ n % 2 ^ 64)
@@ -20,6 +16,10 @@ xorRight n x = bitXor x (x / 2 ^ n)
 
 unfoldable pub mixed : ℕ → ℕ
 mixed k = xorLeft 17 (xorRight 7 (xorLeft 13 k))
+
+-- bits 48 to 63 of the mixed key, as a number, mod Q (document 02, job 2)
+unfoldable pub pageOf : Geometry → ℕ → ℕ
+pageOf g k = mixed k / 2 ^ 48 % g .pages
 
 -- Of the mixed key x, g is the low 32 bits and d the high 32 with the lowest bit set. Bit i is at (g + i × d) mod M.
 abbrev pub firstBit : ℕ → ℕ

@@ -23,7 +23,7 @@ pub enum Stand {
 }
 
 /// A fresh key of the partition: its top s bits are given.
-fn key_in(tables: &Tables, partition: usize, random: &mut Random) -> u64 {
+pub fn key_in(tables: &Tables, partition: usize, random: &mut Random) -> u64 {
     let parts = tables.geometry.parts;
     let low = random.number() & u64::MAX >> parts;
     // In two steps, because with s = 0 a single shift would be by 64.
@@ -63,9 +63,9 @@ pub fn top_up(tables: &mut Tables, random: &mut Random) {
         for partition in 0..layout.partitions() {
             loop {
                 let key = key_in(tables, partition, random);
-                let page = key % u64::from(tables.geometry.pages);
+                let page = reference::key::page_number(&layout, key);
                 let (memory, flash) = tables.areas(table);
-                let full = count(view(memory, flash, partition, page as usize, 0));
+                let full = count(view(memory, flash, partition, page, 0));
                 if full == layout.entries() {
                     break;
                 }

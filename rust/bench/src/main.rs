@@ -1,6 +1,7 @@
 //! The benchmark: the proved engine against the independent Rust index, other
 //! stores and floors. `./bench` at the root of the repository runs it.
 
+mod batches;
 mod count;
 mod engine;
 mod fill;
@@ -17,6 +18,7 @@ mod shape;
 mod tables;
 mod work;
 
+use batches::Batches;
 use engine::Engine;
 use index::RustIndex;
 use random::Random;
@@ -78,9 +80,11 @@ fn main() {
     let shapes = shape::all().into_iter().filter(wanted);
     let parts: Vec<Part> = shapes.map(|shape| part(shape, counting, &folder)).collect();
     fs::remove_dir_all(&folder).expect("the folder is removed");
+    let batches = batches::measured();
+    print_batches(&batches);
 
     let page = settings.docs.join("BENCHMARKS.md");
-    fs::write(&page, report::page(&parts, &settings.kit)).expect("the page is written");
+    fs::write(&page, report::page(&parts, &batches, &settings.kit)).expect("the page is written");
     let picture = settings.docs.join("benchmarks.svg");
     fs::write(&picture, plot::picture(&parts)).expect("the picture is written");
     println!("bench: wrote {} and {}", page.display(), picture.display());
@@ -201,6 +205,13 @@ fn check_same_fill(tables: &Tables, shape: &Shape) {
     fill::fill::<Engine>(&mut other, shape.flushes, &mut Random::new(1));
     assert!(tables.memory == other.memory, "the memory areas differ");
     assert!(tables.flash == other.flash, "the flash areas differ");
+}
+
+fn print_batches(batches: &Batches) {
+    println!(
+        "  entries of a batch: {:.0} of one stream, {:.0} at random",
+        batches.one_stream, batches.random
+    );
 }
 
 fn print_row(row: &Row) {

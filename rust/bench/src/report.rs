@@ -1,5 +1,6 @@
 //! The page docs/BENCHMARKS.md.
 
+use crate::batches::{Batches, FLUSHES};
 use crate::machine;
 use crate::rivals::ALL;
 use crate::shape;
@@ -10,13 +11,14 @@ use std::fmt::Write;
 /// What is said by hand: where the engine was below, what was done, what is left.
 const NOTES: &str = include_str!("../notes.md");
 
-pub fn page(parts: &[Part], kit: &str) -> String {
+pub fn page(parts: &[Part], batches: &Batches, kit: &str) -> String {
     let mut page = String::new();
     opening(&mut page, kit);
     for part in parts {
         geometry(&mut page, part);
     }
     reads(&mut page, parts);
+    entries(&mut page, batches);
     for part in parts {
         rivals(&mut page, part);
     }
@@ -153,6 +155,31 @@ The Bloom formula gives (1 − (1 − 1/M)^(h n))^h as the share of keys that a 
         }
     }
     page.push('\n');
+}
+
+fn entries(page: &mut String, batches: &Batches) {
+    let layout = shape::MIDDLE.layout().expect("an allowed geometry");
+    let most = layout.pages() * layout.entries();
+    let _ = write!(
+        page,
+        "## Entries of a flushed batch
+
+A batch goes out when one of its Q pages is full and has to take another key, so a flush writes Q pages for as many entries as the pages hold by then. Once a key's page number was its low 16 bits mod Q: a chunker that keeps its stream number there filled one page, and each batch went out with E entries and Q − 1 empty pages. Since then it is bits 48 to 63 of the mixed key mod Q. Counted in flash, the mean of {} batches of fresh keys in the middle geometry, Q = {} and E = {}, where a batch has room for {}:
+
+| keys | by the low 16 bits, on paper | now |
+|---|--:|--:|
+| random, with one stream number in the low 16 bits | {} | {} |
+| random throughout | as now: either 16 bits are uniform | {} |
+
+",
+        FLUSHES << shape::MIDDLE.parts,
+        layout.pages(),
+        layout.entries(),
+        grouped(most),
+        layout.entries(),
+        grouped(batches.one_stream.round() as usize),
+        grouped(batches.random.round() as usize),
+    );
 }
 
 fn rivals(page: &mut String, part: &Part) {

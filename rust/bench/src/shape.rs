@@ -26,7 +26,7 @@ pub struct Shape {
 
 const SMALL: Geometry = Geometry::new([0, 64, 1, 2, 64, 3, 1]);
 
-const MIDDLE: Geometry = Geometry::new([4, 4096, 16, 16, 65536, 4, 256]);
+pub const MIDDLE: Geometry = Geometry::new([4, 4096, 16, 16, 65536, 4, 256]);
 
 const LARGEST: Geometry = Geometry::new([8, 4096, 64, 32, 65536, 8, 1024]);
 

@@ -9,13 +9,6 @@ pub fn partition(layout: &Layout, key: u64) -> usize {
     ((key >> 32) >> (32 - layout.geometry().parts)) as usize
 }
 
-/// The key's page number: its low 16 bits mod Q.
-#[inline]
-pub fn page_number(layout: &Layout, key: u64) -> usize {
-    // Q is a power of two of at most 64, so the mask lies within the 16 bits.
-    key as usize & (layout.pages() - 1)
-}
-
 /// Marsaglia's xorshift on 64 bits.
 #[inline]
 pub fn mix(key: u64) -> u64 {
@@ -24,6 +17,13 @@ pub fn mix(key: u64) -> u64 {
     mixed ^= mixed >> 7;
     mixed ^= mixed << 17;
     mixed
+}
+
+/// The key's page number: bits 48 to 63 of the mixed key, as a number, mod Q.
+#[inline]
+pub fn page_number(layout: &Layout, key: u64) -> usize {
+    // Q is a power of two of at most 64, so the mask lies within the 16 bits.
+    (mix(key) >> 48) as usize & (layout.pages() - 1)
 }
 
 /// The bits that a key sets in a filter, before they are taken mod M.

@@ -3,7 +3,7 @@
 mod common;
 
 use common::{flash_need, found, memory_need, none, partition_bytes};
-use common::{record, word, Rng, Table, G, WIDE};
+use common::{record, word, Rng, Table, G, PAGE_1, WIDE};
 use reference::{del, flush, format, get, put, view, view_part};
 
 #[test]
@@ -173,11 +173,11 @@ fn the_last_eight_head_bytes_are_carried() {
 #[test]
 fn view_shows_the_bytes_where_they_lie() {
     let mut table = Table::new(WIDE);
-    for key in [1, 2, 1 << 63] {
+    for key in [PAGE_1, 2, 1 << 63] {
         table.put(key, 7).unwrap();
     }
     for _ in 0..4 {
-        table.put(1, 7).unwrap();
+        table.put(PAGE_1, 7).unwrap();
         table.flush(0).unwrap();
     }
     let before = table.clone();
@@ -204,15 +204,15 @@ fn view_shows_the_bytes_where_they_lie() {
 fn live_batches_go_by_number_and_not_by_slot() {
     let mut table = Table::new(WIDE);
     for value in 1..=7u64 {
-        table.put(1, value).unwrap();
+        table.put(PAGE_1, value).unwrap();
         table.flush(0).unwrap();
-        assert_eq!(table.get(1), found(value, 1, value as u32));
+        assert_eq!(table.get(PAGE_1), found(value, 1, value as u32));
     }
     // Batches 5, 6 and 7 lie in slots 1, 2 and 0.
     table.batch(0, 0, 1)[0] = 0;
-    assert_eq!(table.get(1), found(6, 2, 6));
+    assert_eq!(table.get(PAGE_1), found(6, 2, 6));
     table.batch(0, 2, 1)[0] = 0;
-    assert_eq!(table.get(1), found(5, 3, 5));
+    assert_eq!(table.get(PAGE_1), found(5, 3, 5));
     table.batch(0, 1, 1)[0] = 0;
-    assert_eq!(table.get(1), none(3));
+    assert_eq!(table.get(PAGE_1), none(3));
 }

@@ -3,7 +3,7 @@
 
 mod common;
 
-use common::{found, none, pair, Table, G, WIDE};
+use common::{found, none, pair, Table, G, PAGE_1, WIDE};
 
 fn entries(table: &mut Table) -> Vec<(u64, u64)> {
     table.buffer(0, 0)[16..].chunks(16).map(pair).collect()
@@ -78,12 +78,12 @@ fn zero_is_a_key_and_the_largest_number_a_value() {
 fn buffer_heads_are_not_judged_but_for_the_count() {
     let mut table = Table::new(WIDE);
     table.buffer(0, 1)[2..16].fill(0xee);
-    assert_eq!(table.put(1, 10), Ok(0));
-    assert_eq!(table.get(1), found(10, 0, 0));
+    assert_eq!(table.put(PAGE_1, 10), Ok(0));
+    assert_eq!(table.get(PAGE_1), found(10, 0, 0));
     assert!(table.view(0, 1, 0).is_ok());
     assert_eq!(table.flush(0), Ok(2));
     // The flush carried the false numbers over, and a get notices.
-    assert_eq!(common::refused(table.get(1)), (13, 1));
+    assert_eq!(common::refused(table.get(PAGE_1)), (13, 1));
 }
 
 #[test]

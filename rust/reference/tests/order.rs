@@ -2,15 +2,15 @@
 
 mod common;
 
-use common::{set_word, Table, G, WIDE};
+use common::{set_word, Table, G, PAGE_1, WIDE};
 use reference::{format, Geometry, Refusal};
 
 type Call = fn(&mut Table) -> Result<(), Refusal>;
 
-const PUT: Call = |t| t.put(1, 1).map(drop);
-const PUT_0: Call = |t| t.put(1, 0).map(drop);
-const GET: Call = |t| t.get(1).map(drop);
-const DEL: Call = |t| t.del(1);
+const PUT: Call = |t| t.put(PAGE_1, 1).map(drop);
+const PUT_0: Call = |t| t.put(PAGE_1, 0).map(drop);
+const GET: Call = |t| t.get(PAGE_1).map(drop);
+const DEL: Call = |t| t.del(PAGE_1);
 const FLUSH: Call = |t| t.flush(0).map(drop);
 const VIEW: Call = |t| t.view(0, 0, 9).map(drop);
 const ALL: [Call; 6] = [PUT, PUT_0, GET, DEL, FLUSH, VIEW];
@@ -136,7 +136,7 @@ fn flush_checks_12_15_16() {
 fn put_checks_12_before_16() {
     let mut table = Table::new(WIDE);
     table.set_flushes(0, u32::MAX);
-    table.fill_buffer(0, 1, &[(3, 1), (5, 1), (7, 1)]);
+    table.fill_buffer(0, 1, &[1, 2, 3].map(|i| (PAGE_1 + i, 1)));
     assert_eq!(table.refuses(PUT), (16, 0));
     // Another page's count, which only the flush that is due reads.
     table.buffer(0, 0)[0] = 4;
@@ -158,7 +158,7 @@ fn put_checks_21_before_12_and_16() {
     assert_eq!(table.refuses(PUT), (12, 0));
     assert_eq!(table.refuses(PUT_0), (21, 0));
     // No flush number is left, and then another page counts too much.
-    table.fill_buffer(0, 1, &[(3, 1), (5, 1), (7, 1)]);
+    table.fill_buffer(0, 1, &[1, 2, 3].map(|i| (PAGE_1 + i, 1)));
     table.set_flushes(0, u32::MAX);
     assert_eq!(table.refuses(PUT), (16, 0));
     assert_eq!(table.refuses(PUT_0), (21, 0));

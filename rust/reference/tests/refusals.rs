@@ -2,16 +2,16 @@
 
 mod common;
 
-use common::{found, none, refused, set_word, Table, G, WIDE};
+use common::{found, none, refused, set_word, Table, G, PAGE_1, WIDE};
 use reference::{format, Geometry, Refusal};
 
 type Call = fn(&mut Table) -> Result<(), Refusal>;
 
 /// Every call but format, with arguments that are in range.
 const CALLS: [Call; 6] = [
-    |t| t.put(1, 1).map(drop),
-    |t| t.get(1).map(drop),
-    |t| t.del(1),
+    |t| t.put(PAGE_1, 1).map(drop),
+    |t| t.get(PAGE_1).map(drop),
+    |t| t.del(PAGE_1),
     |t| t.flush(0).map(drop),
     |t| t.view(0, 0, 0).map(drop),
     |t| t.view(0, 0, 1).map(drop),
@@ -116,7 +116,7 @@ fn refusal_2_and_3_in_format() {
 #[test]
 fn refusal_4_at_s_and_q() {
     let mut table = Table::new(WIDE);
-    table.put(1, 1).unwrap();
+    table.put(PAGE_1, 1).unwrap();
     table.put(1 << 63, 1).unwrap();
     for partition in [2, 3, u32::MAX] {
         assert_eq!(table.refuses(|t| t.flush(partition)), (4, 0));
@@ -160,7 +160,7 @@ fn refusal_12_for_the_list() {
         table.set_listed(0, u32::MAX);
         all_refuse(&table, 12);
     }
-    // L = D is in order. No filter passes key 1, so that its del needs no place.
+    // L = D is in order. No filter passes the key, so that its del needs no place.
     let mut table = used(WIDE);
     table.set_listed(0, 3);
     all_accept(&table);
@@ -180,12 +180,12 @@ fn refusal_12_for_a_buffer_page() {
     for (low, high) in [(4, 0), (0, 1), (255, 255)] {
         let mut table = used(WIDE);
         table.buffer(0, 1)[..2].copy_from_slice(&[low, high]);
-        // Key 1 belongs to page 1, key 2 to page 0.
-        assert_eq!(table.refuses(|t| t.put(1, 1)), (12, 0));
-        assert_eq!(table.refuses(|t| t.get(1)), (12, 0));
-        assert_eq!(table.refuses(|t| t.del(1)), (12, 0));
+        assert_eq!(table.refuses(|t| t.put(PAGE_1, 1)), (12, 0));
+        assert_eq!(table.refuses(|t| t.get(PAGE_1)), (12, 0));
+        assert_eq!(table.refuses(|t| t.del(PAGE_1)), (12, 0));
         assert_eq!(table.refuses(|t| t.view(0, 1, 0).map(drop)), (12, 0));
         assert_eq!(table.refuses(|t| t.flush(0)), (12, 0));
+        // Small keys belong to page 0.
         assert_eq!(table.clone().put(4, 1), Ok(0));
         assert_eq!(table.get(2), found(6, 0, 0));
         assert_eq!(table.clone().del(2), Ok(()));
@@ -214,7 +214,7 @@ fn refusal_12_for_a_listed_key() {
 #[test]
 fn refusal_13_for_each_field_of_the_head() {
     let mut table = Table::new(WIDE);
-    let key = 1 << 63 | 1;
+    let key = 1 << 63 | PAGE_1;
     table.put(key, 5).unwrap();
     table.flush(1).unwrap();
     assert_eq!(table.get(key), found(5, 1, 1));
@@ -294,7 +294,7 @@ fn refusal_15_goes_by_the_counts() {
     table.buffer(0, 0)[0] = 0;
     assert_eq!(table.refuses(|t| t.flush(0)), (15, 0));
     // One entry in the last page does.
-    table.fill_buffer(0, 1, &[(1, 1)]);
+    table.fill_buffer(0, 1, &[(PAGE_1, 1)]);
     assert_eq!(table.refuses(|t| t.flush(1)), (15, 0));
     assert_eq!(table.flush(0), Ok(2));
     assert_eq!(table.refuses(|t| t.flush(0)), (15, 0));
@@ -322,7 +322,7 @@ fn refusal_17_at_the_edges_of_the_live_numbers() {
     let mut table = Table::new(WIDE);
     assert_eq!(table.refuses(|t| t.view(0, 0, 1).map(drop)), (17, 0));
     for flushes in 1..=5u32 {
-        table.put(1, 1).unwrap();
+        table.put(PAGE_1, 1).unwrap();
         table.flush(0).unwrap();
         for number in 1..=7 {
             let live = number <= flushes && number + 3 > flushes;

@@ -7,11 +7,11 @@ use Rattle.geometry.proofs.page_of.Statement.{statement}
 use Rattle.geometry.proofs.page_of.Tie as tie
 
 sub-result : tie.Need-sub-result
-sub-result c = sizes _ (c .before .pre) .pages-min
+sub-result c = sizes _ (c .before .before .pre) .pages-min
 
 returns : tie.Need-returns
 unfolding pageOf
-returns c = mask 0 6 _ _ (sizes _ (c .before .pre) .pages-test)
+returns c = rw (← c .before .mix .ensures) (mask 0 6 _ _ (sizes _ (c .before .before .pre) .pages-test))
 
 pub page-of-spec : {M : Type 1} → statement M
-page-of-spec = tie.close (tie.spec (λ c. search needs) sub-result returns)
+page-of-spec = tie.close (tie.spec (λ c. search needs) (λ c. search needs) sub-result returns)

@@ -14,6 +14,10 @@ pub const G: Geometry = Geometry::new([0, 64, 1, 2, 64, 3, 1]);
 /// A geometry of two partitions, two pages and three batches.
 pub const WIDE: Geometry = Geometry::new([1, 64, 2, 3, 64, 2, 3]);
 
+/// A key of WIDE's page 1: the mixing takes its bit 18 to bit 48. Bits below
+/// that have no say in the page, so a smaller key belongs to page 0.
+pub const PAGE_1: u64 = 1 << 18;
+
 /// Splitmix: every run of the tests draws the same numbers.
 pub struct Rng(pub u64);
 
@@ -57,7 +61,7 @@ impl Rng {
         while keys.len() < number {
             let key = match self.below(3) {
                 0 => self.below(32) as u64,
-                1 => self.next() & 0xe000_0000_0000_0007,
+                1 => self.next() & 0xe000_0000_001c_0000,
                 _ => self.next(),
             };
             keys.push(key);

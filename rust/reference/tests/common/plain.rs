@@ -132,19 +132,22 @@ pub fn allowed(g: Geometry) -> bool {
         && (1..=1024).contains(&g.list)
 }
 
-pub fn home(g: Geometry, key: u64) -> (usize, usize) {
-    let partition = (u128::from(key) << g.parts) >> 64;
-    (
-        partition as usize,
-        (key % 65536 % u64::from(g.pages)) as usize,
-    )
-}
-
-pub fn bits(g: Geometry, key: u64) -> Vec<usize> {
+pub fn mixed(key: u64) -> u64 {
     let mut mixed = key;
     mixed ^= mixed << 13;
     mixed ^= mixed >> 7;
     mixed ^= mixed << 17;
+    mixed
+}
+
+pub fn home(g: Geometry, key: u64) -> (usize, usize) {
+    let partition = (u128::from(key) << g.parts) >> 64;
+    let page = (mixed(key) >> 48) % u64::from(g.pages);
+    (partition as usize, page as usize)
+}
+
+pub fn bits(g: Geometry, key: u64) -> Vec<usize> {
+    let mixed = mixed(key);
     let (low, high) = (u128::from(mixed % (1 << 32)), u128::from(mixed >> 32 | 1));
     let place = |i: u32| (low + u128::from(i) * high) % u128::from(g.bits);
     (0..g.hashes).map(|i| place(i) as usize).collect()
