@@ -82,7 +82,7 @@ pub fn make(part: &mut [u8], g: Geometry, j: u32)
     ensures { λ _. ⌜ now (part .exit) ≡ within (filterAt g j) (filterSize g) (λ _. filterFor g (bufferOf g (now (part .entry)))) (now (part .entry)) ⌝ }
 {
     let at = geometry::filter_at(g, j);
-    let size = geometry::filter_size(g);
+    let size = geometry::filter_size(g) as usize;
     words::zero(part, at, size);
     let pages = g.pages;
     let mut q = 0;

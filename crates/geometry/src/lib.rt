@@ -70,28 +70,28 @@ pub fn page_capacity(g: Geometry) -> usize
     (g.page / 16 - 1) as usize
 }
 
-pub fn filter_size(g: Geometry) -> usize
+pub fn filter_size(g: Geometry) -> u32
     ensures { λ r. ⌜ r ≡ filterSize g ⌝ }
 {
-    (g.bits / 8) as usize
+    g.bits / 8
 }
 
-// Where slot j's filter begins in a partition.
+// Where slot j's filter begins in a partition. Summed in 32 bits, as LLVM sums it in the checks of a call, where it knows the numbers to be small: so a call makes the sum once.
 pub fn filter_at(g: Geometry, j: u32) -> usize
     requires { ⌜ allowed g ≡ true ⌝ }
     requires { ⌜ j ≤ g .kept ⌝ }
     ensures { λ r. ⌜ r ≡ filterAt g j ⌝ }
 {
-    16 + 16 * g.list as usize + j as usize * filter_size(g)
+    (16 + 16 * g.list + j * filter_size(g)) as usize
 }
 
-// Where buffer page q begins in a partition.
+// Where buffer page q begins in a partition, summed likewise.
 pub fn buffer_at(g: Geometry, q: u32) -> usize
     requires { ⌜ allowed g ≡ true ⌝ }
     requires { ⌜ q ≤ g .pages ⌝ }
     ensures { λ r. ⌜ r ≡ bufferAt g q ⌝ }
 {
-    filter_at(g, g.kept) + q as usize * g.page as usize
+    (filter_at(g, g.kept) as u32 + q * g.page) as usize
 }
 
 // A partition's bytes.

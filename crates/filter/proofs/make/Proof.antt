@@ -3,6 +3,7 @@ use mathlib.Core.Path.{_≡_, refl, sym, _∙_}
 use Prim.Native.Nat.{_+_, _-_, _≤_}
 use native.Mathlib.Omega.{arith}
 use lib.ListN.{length, length-replicate}
+use borrow.Author.Needs.{needs}
 use Rattle.model.specs.Bytes.{zeros, within}
 use Rattle.model.specs.Geometry.{filterSize, bufferAt, stride}
 use Rattle.model.specs.Filter.{withPages}
@@ -62,4 +63,4 @@ returns c =
     rw (← c .before .before .before .before .before .before .before .filter-at .ensures) (rw e at (c .before .loop .inv .2) ∙ pages-added _ _ _ _ (p .0) (omega arith) (zeroed (c .before .before .before .before)))
 
 pub make-spec : {M : Type 1} → statement M
-make-spec = tie.close (tie.spec Inv-loop μ-loop (λ c κs. (c .before .pre .0, omega arith)) (λ c κs. tt) (λ c κs. omega (arith, place (c .before .before))) loop-holds (λ c κs. (start (begun (c .before)) .pre .0, omega arith)) add-page-requires (λ c. omega arith) (λ c. omega arith) loop-again (λ c. omega arith) returns)
+make-spec = tie.close (tie.spec Inv-loop μ-loop (λ c κs. (c .before .pre .0, omega arith)) (λ c κs. tt) (λ c. search needs) (λ c κs. omega (arith, place (c .before .before))) loop-holds (λ c κs. (start (begun (c .before)) .pre .0, omega arith)) add-page-requires (λ c. omega arith) (λ c. omega arith) loop-again (λ c. omega arith) returns)
