@@ -115,6 +115,12 @@ enum {
  *   hashes   bits set per key                         1 to 8
  *   list     places for deleted keys per partition    1 to 1024
  *
+ * Partitions fill alike if the top s bits of the keys vary. A key's page in its
+ * batch comes from its mixed bits, so its low 16 bits may be the same in all
+ * keys, as a stream number is. A table that was filled while the page came from
+ * those low bits has to be formatted anew if it has more than one page: of its
+ * keys that now belong to another page mx_get says MX_NONE.
+ *
  * Answers MX_DONE, or refuses with 1, 2 or 3.
  */
 mx_answer mx_format(uint8_t *memory, size_t memory_len, const uint8_t *flash, size_t flash_len,

@@ -23,17 +23,17 @@ pub struct Batches {
 /// What the engine's flushes write in the middle geometry.
 pub fn measured() -> Batches {
     Batches {
-        one_stream: mean_entries(|key| key & !0xffff | STREAM),
-        random: mean_entries(|key| key),
+        one_stream: mean_entries(4, |key| key & !0xffff | STREAM),
+        random: mean_entries(5, |key| key),
     }
 }
 
 /// Puts fresh keys of one partition after the other, each made so of a random
 /// one, and counts the entries of every batch in flash once it is flushed.
-fn mean_entries(key: impl Fn(u64) -> u64) -> f64 {
+fn mean_entries(seed: u64, key: impl Fn(u64) -> u64) -> f64 {
     let mut tables = Tables::new(MIDDLE, 1);
     tables.format::<Engine>();
-    let random = &mut Random::new(4);
+    let random = &mut Random::new(seed);
     let partitions = 1usize << MIDDLE.parts;
     let mut entries = 0;
     for partition in 0..partitions {

@@ -19,7 +19,7 @@ pub struct Geometry {
     pub parts: u32,
     /// P: bytes in a page, which holds P / 16 - 1 entries. A power of two, 64 to 4096.
     pub page: u32,
-    /// Q: pages in a batch. A power of two, 1 to 64.
+    /// Q: pages in a batch, among which a key's mixed bits choose. A power of two, 1 to 64.
     pub pages: u32,
     /// K: batches kept per partition. 1 to 32.
     pub kept: u32,

@@ -55,13 +55,15 @@ impl Rng {
         ])
     }
 
-    /// Keys that meet in partitions, pages and filter bits.
+    /// Keys that meet in partitions, pages and filter bits, keys of one stream
+    /// and any keys.
     pub fn keys(&mut self, number: usize) -> Vec<u64> {
         let mut keys = vec![0, u64::MAX];
         while keys.len() < number {
-            let key = match self.below(3) {
+            let key = match self.below(4) {
                 0 => self.below(32) as u64,
                 1 => self.next() & 0xe000_0000_001c_0000,
+                2 => self.next() << 16 | 7,
                 _ => self.next(),
             };
             keys.push(key);
