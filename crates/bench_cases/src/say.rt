@@ -32,7 +32,7 @@ pub fn entries(g: Geometry) {
 // A key mixed, in hex.
 pub fn mixed(key: u64) {
     text(b" ");
-    io::print_hex(STDOUT_FILENO, geometry::mix(key), 1);
+    io::print_hex(STDOUT_FILENO, keys::mix(key), 1);
 }
 
 // The places of the bits that are set.

@@ -40,7 +40,7 @@ pub fn is_key_overfull(part: &[u8], g: Geometry, key: u64) -> bool
     requires { ⌜ Whole g (now part) ⌝ }
     ensures { λ r. ⌜ r ≡ keyOverfull g key (now (part .entry)) ⌝ }
 {
-    Head::read(part).is_overfull(g) | is_page_overfull(part, g, geometry::page_of(g, key))
+    Head::read(part).is_overfull(g) | is_page_overfull(part, g, keys::page_of(g, key))
 }
 
 pub fn is_some_page_overfull(part: &[u8], g: Geometry) -> bool
@@ -99,7 +99,7 @@ fn page_at(g: Geometry, key: u64) -> usize
     requires { ⌜ allowed g ≡ true ⌝ }
     ensures { λ r. ⌜ r ≡ bufferAt g (pageOf g key) ⌝ }
 {
-    geometry::buffer_at(g, geometry::page_of(g, key))
+    geometry::buffer_at(g, keys::page_of(g, key))
 }
 
 // The key has the value in its page.

@@ -40,7 +40,7 @@ fn stamp_for(part: &[u8], g: Geometry, key: u64) -> Youngest
     requires { ⌜ headOverfull g (headOf (now part)) ≡ false ⌝ }
     ensures { λ r. ⌜ stamp r ≡ stampFor g key (now (part .entry)) ⌝ }
 {
-    let x = geometry::mix(key);
+    let x = keys::mix(key);
     let head = Head::read(part);
     let mut n = head.flushes;
     let mut slot = n % g.kept;
@@ -124,7 +124,7 @@ fn apply_at(memory: &mut [u8], g: Geometry, key: u64, youngest: Youngest)
     requires { ⌜ Listable g key (stamp youngest) (partition g (partitionOf g key) (now memory)) ⌝ }
     ensures { λ _. ⌜ now (memory .exit) ≡ within (partitionAt g (partitionOf g key)) (stride g) (λ p. listedWith (stamp youngest) g key (unbuffered g key p)) (now (memory .entry)) ⌝ }
 {
-    let a = geometry::key_partition_at(g, key);
+    let a = keys::key_partition_at(g, key);
     let e = a + geometry::partition_size(g);
     apply(&mut memory[a..e], g, key, youngest);
 }

@@ -68,7 +68,7 @@ fn add_page(s: &mut [u8], at: usize, g: Geometry, page: usize)
     let mut entry = 0;
     while entry < n {
         let key = words::u64_at(s, page + 16 * (entry + 1));
-        add_key(s, at, g, geometry::mix(key));
+        add_key(s, at, g, keys::mix(key));
         entry += 1;
     }
 }

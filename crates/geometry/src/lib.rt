@@ -1,9 +1,8 @@
-// A table's numbers: which are allowed, what they need, where everything begins; a batch's slot; a key's partition, page and mixed form.
+// A table's numbers: which are allowed, what they need, where everything begins; a batch's slot.
 ghost use mathlib.Core.Bool.{true};
 ghost use mathlib.Core.Path.{_≡_};
 ghost use Prim.Native.Nat.{ℕ, _+_, _≤_, _<_};
 ghost use Rattle.model.specs.Geometry.{isPower, allowed, partitions, capacity, filterSize, filterAt, bufferAt, stride, partitionAt, memoryNeed, slotPageAt, flashNeed};
-ghost use Rattle.model.specs.Keys.{partitionOf, pageOf, mixed};
 ghost use Rattle.model.specs.Partition.{slot};
 use model::Geometry;
 
@@ -157,38 +156,4 @@ pub fn flash_need(g: Geometry) -> usize
 {
     let slots = partition_count(g) as usize * g.kept as usize;
     slots * g.pages as usize * g.page as usize
-}
-
-// The key's top bits. Two shifts, since with one partition the one shift would be by 64.
-pub fn partition_of(g: Geometry, key: u64) -> u32
-    requires { ⌜ allowed g ≡ true ⌝ }
-    ensures { λ r. ⌜ r ≡ partitionOf g key ⌝ }
-{
-    ((key >> 1) >> (63 - g.parts)) as u32
-}
-
-// Where the key's partition begins in memory.
-pub fn key_partition_at(g: Geometry, key: u64) -> usize
-    requires { ⌜ allowed g ≡ true ⌝ }
-    ensures { λ r. ⌜ r ≡ partitionAt g (partitionOf g key) ⌝ }
-{
-    partition_at(g, partition_of(g, key))
-}
-
-// Marsaglia's xorshift.
-pub fn mix(key: u64) -> u64
-    ensures { λ r. ⌜ r ≡ mixed key ⌝ }
-{
-    let a = key ^ (key << 13);
-    let b = a ^ (a >> 7);
-    b ^ (b << 17)
-}
-
-// Bits 48 to 63 of the mixed key, modulo a power of two.
-pub fn page_of(g: Geometry, key: u64) -> u32
-    requires { ⌜ allowed g ≡ true ⌝ }
-    ensures { λ r. ⌜ r ≡ pageOf g key ⌝ }
-{
-    let x = mix(key);
-    (x >> 48) as u32 & (g.pages - 1)
 }

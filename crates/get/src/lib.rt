@@ -29,9 +29,9 @@ pub fn read_through(part: &[u8], flash: &[u8], g: Geometry, key: u64) -> Answer
     requires { ⌜ flashNeed g ≤ length (now flash) ⌝ }
     ensures { λ r. ⌜ answered r ≡ readThrough g key (now (flash .entry)) (passing g key (now (part .entry))) 0 ⌝ }
 {
-    let x = geometry::mix(key);
-    let t = geometry::partition_of(g, key);
-    let q = geometry::page_of(g, key);
+    let x = keys::mix(key);
+    let t = keys::partition_of(g, key);
+    let q = keys::page_of(g, key);
     let head = Head::read(part);
     let mut answer = Answer::Absent(Tally { reads: 0 });
     let mut count = head.live(g);
@@ -77,7 +77,7 @@ fn search_both(part: &[u8], flash: &[u8], g: Geometry, key: u64) -> Answer
     requires { ⌜ flashNeed g ≤ length (now flash) ⌝ }
     ensures { λ r. ⌜ answered r ≡ soughtIn none g key (now (part .entry)) (now (flash .entry)) ⌝ }
 {
-    let q = geometry::page_of(g, key);
+    let q = keys::page_of(g, key);
     match buffer::find(part, g, q, key) {
         Found::At(i) => {
             let value = buffer::value(part, g, q, i);

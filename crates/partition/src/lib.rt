@@ -25,5 +25,5 @@ pub fn part_of_key(memory: &[u8], g: Geometry, key: u64) -> &[u8]
     requires { ⌜ memoryNeed g ≤ length (now memory) ⌝ }
     ensures { λ r. ⌜ now r ≡ partition g (partitionOf g key) (now (memory .entry)) ⌝ }
 {
-    part_of(memory, g, geometry::partition_of(g, key))
+    part_of(memory, g, keys::partition_of(g, key))
 }

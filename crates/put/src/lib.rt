@@ -28,7 +28,7 @@ fn is_due(part: &[u8], g: Geometry, key: u64) -> bool
     requires { ⌜ keyOverfull g key (now part) ≡ false ⌝ }
     ensures { λ r. ⌜ r ≡ due g key (now (part .entry)) ⌝ }
 {
-    let q = geometry::page_of(g, key);
+    let q = keys::page_of(g, key);
     if buffer::count(part, g, q) != geometry::page_capacity(g) {
         return false;
     }
@@ -86,7 +86,7 @@ pub fn call(memory: &mut [u8], flash: &mut [u8], g: Geometry, key: u64, value: u
             Written::Done(0)
         }
         Plan::Flush => {
-            flushing::apply_at(memory, flash, g, geometry::partition_of(g, key));
+            flushing::apply_at(memory, flash, g, keys::partition_of(g, key));
             storing::store_unlisted_at(memory, g, key, value);
             Written::Done(g.pages)
         }

@@ -50,7 +50,7 @@ pub fn store_unlisted_at(memory: &mut [u8], g: Geometry, key: u64, value: u64)
     requires { ⌜ Storable g key (partition g (partitionOf g key) (now memory)) ⌝ }
     ensures { λ _. ⌜ now (memory .exit) ≡ within (partitionAt g (partitionOf g key)) (stride g) (λ p. unlisted g key (buffered g key value p)) (now (memory .entry)) ⌝ }
 {
-    let a = geometry::key_partition_at(g, key);
+    let a = keys::key_partition_at(g, key);
     let e = a + geometry::partition_size(g);
     store_unlisted(&mut memory[a..e], g, key, value);
 }

@@ -6,8 +6,8 @@ use lib.Pow.{shr-shr}
 use borrow.Author.Needs.{needs}
 use Rattle.model.specs.Keys.{partitionOf}
 use Rattle.model.proofs.Sizes.{sizes, partition-of-lt}
-use Rattle.geometry.proofs.partition_of.Statement.{statement}
-use Rattle.geometry.proofs.partition_of.Tie as tie
+use Rattle.keys.proofs.partition_of.Statement.{statement}
+use Rattle.keys.proofs.partition_of.Tie as tie
 
 returns : tie.Need-returns
 unfolding partitionOf

@@ -4,8 +4,8 @@ use native.Mathlib.Omega.{arith}
 use borrow.Author.Needs.{needs}
 use Rattle.model.specs.Geometry.{partitionAt}
 use Rattle.model.proofs.Sizes.{partition-of-lt}
-use Rattle.geometry.proofs.key_partition_at.Statement.{statement}
-use Rattle.geometry.proofs.key_partition_at.Tie as tie
+use Rattle.keys.proofs.key_partition_at.Statement.{statement}
+use Rattle.keys.proofs.key_partition_at.Tie as tie
 
 partition-at-requires : tie.Need-partition-at-requires
 partition-at-requires c κs = let s = c .before in (s .pre, omega (arith, c .partition-of .ensures, partition-of-lt _ (s .pre) (s .args .key) (omega arith)))

@@ -3,8 +3,8 @@ use borrow.Author.Needs.{needs}
 use Rattle.model.specs.Keys.{pageOf}
 use Rattle.model.proofs.Powers.{mask}
 use Rattle.model.proofs.Sizes.{sizes}
-use Rattle.geometry.proofs.page_of.Statement.{statement}
-use Rattle.geometry.proofs.page_of.Tie as tie
+use Rattle.keys.proofs.page_of.Statement.{statement}
+use Rattle.keys.proofs.page_of.Tie as tie
 
 sub-result : tie.Need-sub-result
 sub-result c = sizes _ (c .before .before .pre) .pages-min
