@@ -1,4 +1,5 @@
 -- "From key to partition, page and bits".
+-- Document 02: "The page number becomes bits 48 to 63 of the mixed key, as a number, mod Q. This replaces 01's rule everywhere".
 use Prim.Native.Nat.{ℕ, _+_, _-_, _*_, _/_, _%_, _^_}
 use lib.Bits.{bitOr, bitXor}
 use Rattle.model.specs.declared.Geometry.{Geometry}
@@ -17,7 +18,7 @@ xorRight n x = bitXor x (x / 2 ^ n)
 unfoldable pub mixed : ℕ → ℕ
 mixed k = xorLeft 17 (xorRight 7 (xorLeft 13 k))
 
--- bits 48 to 63 of the mixed key, as a number, mod Q (document 02, job 2)
+-- bits 48 to 63 of the mixed key, as a number, mod Q
 unfoldable pub pageOf : Geometry → ℕ → ℕ
 pageOf g k = mixed k / 2 ^ 48 % g .pages
 
