@@ -73,7 +73,7 @@ formatting g m f = allFigures (replies (areas m f) (format g ∷ []))
 unfoldable pub puttingZero : (List ℕ → List ℕ) → ℕ → List (List ℕ)
 puttingZero change f = allFigures (replies (record { memory = change (run (areas 144 128) (format G ∷ []) .memory); flash = zeros f }) (put 1 0 ∷ []))
 
--- six keys of one stream: the low 16 bits have its number, and only the others differ
+-- six keys of one stream: they differ only from bit 16 on, and the bits below have its number
 abbrev pub stream : List ℕ
 stream = 0x9e3779b97f4a0007 ∷ 0x3c6ef372fe940007 ∷ 0xdaa66d2c7ddf0007 ∷ 0x78dde6e5fd290007 ∷ 0x1715609f7c740007 ∷ 0xb54cda58fbbe0007 ∷ []
 
@@ -143,7 +143,7 @@ rows =
     (refusedWith 2 0 ∷ refusedWith 11 0 ∷ refusedWith 2 0 ∷ refusedWith 3 0 ∷ [])
     -- before 12, of the list and of the key's page
     ∷ answers (puttingZero (write 4 2 36) 128 ++ puttingZero (write 2 4 80) 128) (refusedWith 21 0 ∷ refusedWith 21 0 ∷ [])
-    -- job 2: the pages of keys that differ only above bit 16
+    -- job 2: the pages of these six keys
     ∷ numbers (map (pageOf (withPages 4)) stream) (3 ∷ 2 ∷ 0 ∷ 1 ∷ 3 ∷ 1 ∷ [])
     -- three fill a page, and six go into four pages without a flush
     ∷ answers (allFigures (replies (areas 336 512) streamed)) (ok 0 ∷ ok 0 ∷ ok 0 ∷ ok 0 ∷ ok 0 ∷ ok 0 ∷ ok 0 ∷ [])

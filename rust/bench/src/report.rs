@@ -164,12 +164,12 @@ fn entries(page: &mut String, batches: &Batches) {
         page,
         "## Entries of a flushed batch
 
-A batch goes out when one of its Q pages is full and has to take another key, so a flush writes Q pages for as many entries as the pages hold by then. Once a key's page number was its low 16 bits mod Q: a chunker that keeps its stream number there filled one page, and each batch went out with E entries and Q − 1 empty pages. Since then it is bits 48 to 63 of the mixed key mod Q. Counted in flash, the mean of {} batches of fresh keys in the middle geometry, Q = {} and E = {}, where a batch has room for {}:
+A batch goes out when one of its Q pages is full and has to take another key, so a flush writes Q pages for as many entries as the pages hold by then. Once a key's page number was its low 16 bits mod Q: a chunker that keeps its stream number there filled one page, and each batch went out with E entries and Q − 1 empty pages. Since then it is bits 48 to 63 of the mixed key mod Q. Keys that are random throughout spread alike by either rule. Counted in flash, the mean of {} batches of fresh keys in the middle geometry, Q = {} and E = {}, where a batch has room for {}:
 
 | keys | by the low 16 bits, on paper | now |
 |---|--:|--:|
 | random, with one stream number in the low 16 bits | {} | {} |
-| random throughout | as now: either 16 bits are uniform | {} |
+| random throughout | as now | {} |
 
 ",
         FLUSHES << shape::MIDDLE.parts,

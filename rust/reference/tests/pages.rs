@@ -11,7 +11,7 @@ use std::collections::HashSet;
 /// The session's geometry with four pages.
 const FOUR: Geometry = Geometry::new([0, 64, 4, 2, 64, 3, 1]);
 
-/// Six keys of one stream: the low 16 bits have its number.
+/// Six keys of one stream: the bits below 16 have its number.
 const STREAM: [u64; 6] = [
     0x9e37_79b9_7f4a_0007,
     0x3c6e_f372_fe94_0007,
@@ -22,7 +22,7 @@ const STREAM: [u64; 6] = [
 ];
 
 #[test]
-fn keys_that_differ_only_above_bit_16() {
+fn keys_that_differ_only_from_bit_16_on() {
     let layout = FOUR.layout().unwrap();
     let pages = STREAM.map(|key| page_number(&layout, key));
     assert_eq!(pages, [3, 2, 0, 1, 3, 1]);
