@@ -73,9 +73,9 @@ formatting g m f = allFigures (replies (areas m f) (format g ∷ []))
 unfoldable pub puttingZero : (List ℕ → List ℕ) → ℕ → List (List ℕ)
 puttingZero change f = allFigures (replies (record { memory = change (run (areas 144 128) (format G ∷ []) .memory); flash = zeros f }) (put 1 0 ∷ []))
 
--- six keys of one stream: they differ only from bit 16 on, and the bits below have its number
+-- six keys that differ only above bit 16: the low 16 bits have the number of one stream
 abbrev pub stream : List ℕ
-stream = 0x9e3779b97f4a0007 ∷ 0x3c6ef372fe940007 ∷ 0xdaa66d2c7ddf0007 ∷ 0x78dde6e5fd290007 ∷ 0x1715609f7c740007 ∷ 0xb54cda58fbbe0007 ∷ []
+stream = 0x9e3779b97f4a0007 ∷ 0x3c6ef372fe940007 ∷ 0xdaa66d2c7dde0007 ∷ 0x78dde6e5fd280007 ∷ 0x1715609f7c740007 ∷ 0xb54cda58fbbe0007 ∷ []
 
 -- a fresh table of G with four pages, and these keys put into it
 abbrev pub streamed : List Call

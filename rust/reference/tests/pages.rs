@@ -11,18 +11,18 @@ use std::collections::HashSet;
 /// The session's geometry with four pages.
 const FOUR: Geometry = Geometry::new([0, 64, 4, 2, 64, 3, 1]);
 
-/// Six keys of one stream: the bits below 16 have its number.
+/// Six keys of one stream: the low 16 bits have its number.
 const STREAM: [u64; 6] = [
     0x9e37_79b9_7f4a_0007,
     0x3c6e_f372_fe94_0007,
-    0xdaa6_6d2c_7ddf_0007,
-    0x78dd_e6e5_fd29_0007,
+    0xdaa6_6d2c_7dde_0007,
+    0x78dd_e6e5_fd28_0007,
     0x1715_609f_7c74_0007,
     0xb54c_da58_fbbe_0007,
 ];
 
 #[test]
-fn keys_that_differ_only_from_bit_16_on() {
+fn keys_that_differ_only_above_bit_16() {
     let layout = FOUR.layout().unwrap();
     let pages = STREAM.map(|key| page_number(&layout, key));
     assert_eq!(pages, [3, 2, 0, 1, 3, 1]);
