@@ -44,11 +44,13 @@ extern "C" {
  *   mx_get, it is not          MX_NONE                reads
  *   mx_view, a buffer page     MX_DONE      bytes                      begins
  *   mx_view, a page of flash   MX_DONE      bytes     1      1         begins
+ *   mx_count                   MX_DONE      entries
  *   any of them                MX_REFUSED   refusal   reads
  */
 typedef struct {
     uint32_t status; /* MX_DONE, MX_FOUND, MX_NONE or MX_REFUSED */
-    uint32_t number; /* done: pages written; refused: the refusal's number; view: bytes of the page */
+    uint32_t number; /* done: pages written; refused: the refusal's number; view: bytes of the page;
+                        count: entries */
     uint32_t reads;  /* flash pages read, also before a refusal */
     uint32_t batch;  /* found: 0 in the buffer, else the batch's number; view: 0 in memory, 1 in flash */
     uint64_t value;  /* found: the value; view: where the page begins in that area */
@@ -61,26 +63,30 @@ enum { MX_DONE = 0, MX_FOUND = 1, MX_NONE = 2, MX_REFUSED = 3 };
  * Refusals: mx_answer's number where the status is MX_REFUSED. Each is given
  * when its condition holds and no earlier one of its call does, and at no other
  * time. mx_format checks 1, 2, 3. The others check 2 (below 32 bytes), 11,
- * 2 (the need), 3, 4, 12 and then their own: mx_put 16; mx_get 13 as it reads;
- * mx_del 14; mx_flush 15, 16; mx_view 17, 13. Only mx_put checks 21, behind 3
- * and before 12. Only 13 tells reads above 0.
+ * 2 (the need), 3, 4, 12 and then their own: mx_put 16, 13; mx_get 13 as it
+ * reads; mx_del 14; mx_flush 15, 16, 13; mx_view 17, 13. Only mx_put checks 21,
+ * behind 3 and before 12. Where mx_put, mx_del or mx_flush would end with a
+ * total that cannot be, 12 comes last. Only 13 tells reads above 0.
  */
 enum {
     /* from the arguments */
     MX_REFUSED_GEOMETRY = 1,     /* mx_format: a number outside the table of mx_format */
     MX_REFUSED_SHORT_MEMORY = 2, /* all: memory is shorter than 32 bytes, or than the need */
     MX_REFUSED_SHORT_FLASH = 3,  /* all: flash is shorter than the need */
-    MX_REFUSED_OUT_OF_RANGE = 4, /* mx_flush, mx_view: partition not below 2^s; mx_view: page not below `pages` */
+    MX_REFUSED_OUT_OF_RANGE = 4, /* mx_flush, mx_view, mx_count: partition not below 2^s; mx_view: page not
+                                    below `pages` */
     MX_REFUSED_NO_POSITION = 21, /* mx_put: the value is 0, where the sound store has nothing */
 
     /* from what the areas hold */
     MX_REFUSED_OPENING = 11,       /* all but mx_format: memory does not open with allowed numbers: it
                                       was never formatted, or is damaged */
     MX_REFUSED_OVERFULL = 12,      /* all but mx_format: damage: the partition lists more keys than it has
-                                      places for, or a buffer page that the call reads counts more
-                                      entries than fit */
-    MX_REFUSED_BATCH_PAGE = 13,    /* mx_get, mx_view: damage: a page read from flash is not the one expected
-                                      there. `reads` counts it */
+                                      places for, its total is above (kept + 1) * pages * (page / 16 - 1),
+                                      or a buffer page that the call reads counts more entries than fit;
+                                      mx_put, mx_del, mx_flush: the total would end above that, or below 0 */
+    MX_REFUSED_BATCH_PAGE = 13,    /* mx_get, mx_view, and mx_put and mx_flush where a batch goes: damage: a
+                                      page read from flash is not the one expected there. `reads` counts
+                                      it */
     MX_REFUSED_LIST_FULL = 14,     /* mx_del: the key has to be listed and the list is full. Flushes of the
                                       partition free places */
     MX_REFUSED_BUFFER_EMPTY = 15,  /* mx_flush: there is nothing to flush */
@@ -121,6 +127,11 @@ enum {
  * those low bits has to be formatted anew if it has more than one page: of its
  * keys that now belong to another page mx_get says MX_NONE.
  *
+ * A table that was filled while partitions had no totals has to be formatted
+ * anew too. Its totals are 0 where they should not be, and nothing in its bytes
+ * tells so: mx_count would be wrong, and calls that would end with a total below
+ * 0 are refused with 12.
+ *
  * Answers MX_DONE, or refuses with 1, 2 or 3.
  */
 mx_answer mx_format(uint8_t *memory, size_t memory_len, const uint8_t *flash, size_t flash_len,
@@ -131,12 +142,13 @@ mx_answer mx_format(uint8_t *memory, size_t memory_len, const uint8_t *flash, si
  * Gives the key the value. Where the key is new to its buffer page and that
  * page is full, its partition is flushed first: the buffer becomes a batch in
  * flash. Where `kept` batches are live already the oldest one goes, and with it
- * its keys that were not put again since. Every key is allowed, and every value
+ * its keys that were not put again since; the heads of its pages are read first,
+ * for the entries that leave the total. Every key is allowed, and every value
  * but 0: the sound store has nothing at position 0, and from mx_format on no
  * mx_get shows it.
  *
- * Answers MX_DONE with the pages written, or refuses with 2, 3, 11, 12, 16 or
- * 21.
+ * Answers MX_DONE with the pages written, or refuses with 2, 3, 11, 12, 13, 16
+ * or 21.
  */
 mx_answer mx_put(uint8_t *memory, size_t memory_len, uint8_t *flash, size_t flash_len, uint64_t key,
                  uint64_t value);
@@ -164,10 +176,11 @@ mx_answer mx_del(uint8_t *memory, size_t memory_len, const uint8_t *flash, size_
 
 /*
  * Flushes a partition, which is the top s bits of its keys: its buffer becomes
- * a batch in flash.
+ * a batch in flash. Where the oldest batch goes for it, the heads of its pages
+ * are read first, as in mx_put.
  *
- * Answers MX_DONE with the pages written, or refuses with 2, 3, 4, 11, 12, 15
- * or 16.
+ * Answers MX_DONE with the pages written, or refuses with 2, 3, 4, 11, 12, 13,
+ * 15 or 16.
  */
 mx_answer mx_flush(uint8_t *memory, size_t memory_len, uint8_t *flash, size_t flash_len,
                    uint32_t partition);
@@ -182,6 +195,17 @@ mx_answer mx_flush(uint8_t *memory, size_t memory_len, uint8_t *flash, size_t fl
  */
 mx_answer mx_view(const uint8_t *memory, size_t memory_len, const uint8_t *flash, size_t flash_len,
                   uint32_t partition, uint32_t page, uint32_t flush);
+
+/*
+ * Tells a partition's total: the entries of its buffer and of its live batches
+ * together. The partition's head holds it, and no page is read. A key counts
+ * once in each of them that has it, a deleted key too as long as the batch that
+ * has it is live.
+ *
+ * Answers MX_DONE with the entries, or refuses with 2, 3, 4, 11 or 12.
+ */
+mx_answer mx_count(const uint8_t *memory, size_t memory_len, const uint8_t *flash, size_t flash_len,
+                   uint32_t partition);
 
 #ifdef __cplusplus
 }

@@ -12,7 +12,7 @@ pub enum Verdict {
     Refused(Refusal),
 }
 
-// format, put, del, flush: the pages written.
+// format, put, del, flush: the pages written; count: the total.
 pub enum Written {
     Done(u32),
     Refused(Refusal),

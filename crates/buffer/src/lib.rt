@@ -5,12 +5,12 @@ ghost use Prim.Native.Nat.{_+_, _*_, _≤_, _<_};
 ghost use Rattle.model.specs.Bytes.{within};
 ghost use Rattle.model.specs.Geometry.{allowed, partitions, capacity, bufferAt};
 ghost use Rattle.model.specs.Keys.{pageOf};
-ghost use Rattle.model.specs.Page.{countOf, valueAt, searched, emptied};
+ghost use Rattle.model.specs.Page.{countOf, valueAt, searched, taken, emptied};
 ghost use Rattle.model.specs.Partition.{bufferOf};
 ghost use Rattle.model.specs.Refusals.{pageOverfull, keyOverfull, somePageOverfull};
 ghost use Rattle.model.specs.Format.{emptiedPages};
 ghost use Rattle.model.specs.Flush.{inUse};
-ghost use Rattle.model.specs.Put.{buffered};
+ghost use Rattle.model.specs.Put.{appends, buffered};
 ghost use Rattle.model.specs.Del.{unbuffered};
 ghost use Rattle.records.specs.Found.{foundAt};
 ghost use Rattle.partition.specs.Ready.{Whole, Storable};
@@ -102,26 +102,26 @@ fn page_at(g: Geometry, key: u64) -> usize
     geometry::buffer_at(g, keys::page_of(g, key))
 }
 
-// The key has the value in its page.
-pub fn store(part: &mut [u8], g: Geometry, key: u64, value: u64)
+// The key has the value in its page. Tells how many entries that adds.
+pub fn store(part: &mut [u8], g: Geometry, key: u64, value: u64) -> u32
     requires { ⌜ Whole g (now part) ⌝ }
     requires { ⌜ Storable g key (now part) ⌝ }
-    ensures { λ _. ⌜ now (part .exit) ≡ buffered g key value (now (part .entry)) ⌝ }
+    ensures { λ r. ⌜ (now (part .exit) ≡ buffered g key value (now (part .entry))) × (r ≡ appends g key (now (part .entry))) ⌝ }
 {
     let a = page_at(g, key);
     let e = a + g.page as usize;
-    page::store(&mut part[a..e], key, value);
+    page::store(&mut part[a..e], key, value)
 }
 
-// The key's first entry leaves its page.
-pub fn drop_key(part: &mut [u8], g: Geometry, key: u64)
+// The key's first entry leaves its page. Tells how many entries that takes off.
+pub fn drop_key(part: &mut [u8], g: Geometry, key: u64) -> u32
     requires { ⌜ Whole g (now part) ⌝ }
     requires { ⌜ keyOverfull g key (now part) ≡ false ⌝ }
-    ensures { λ _. ⌜ now (part .exit) ≡ unbuffered g key (now (part .entry)) ⌝ }
+    ensures { λ r. ⌜ (now (part .exit) ≡ unbuffered g key (now (part .entry))) × (r ≡ taken key (bufferOf g (now (part .entry)) (pageOf g key))) ⌝ }
 {
     let a = page_at(g, key);
     let e = a + g.page as usize;
-    page::drop_key(&mut part[a..e], key);
+    page::drop_key(&mut part[a..e], key)
 }
 
 // Page q is emptied, as format leaves it.

@@ -1,10 +1,19 @@
 -- The bench cases hold, by computation.
 use mathlib.Core.Path.{refl}
 use Rattle.model.specs.Text.{figures, past, leading, numberFrom, figure}
-use Rattle.model.specs.Session.{putLine, getLine, delLine, flushLine, formatLine, callOf, answerText, linePrints, lineLeaves, linesOf, zeroArea, linesPrint}
+use Rattle.model.specs.Session.{putLine, getLine, delLine, flushLine, countLine, formatLine, callOf, answerText, linePrints, lineLeaves, linesOf, zeroArea, linesPrint}
 use Rattle.model.proofs.Computing.{computing}
-use Rattle.cases.specs.Table.{rows, Agree, allFigures, session, formatting, puttingZero}
+use Rattle.cases.specs.Table.{counts, rows, Agree, allFigures, session, formatting, changed}
+
+-- what a row opens: the calls, the session's text and the table's own words
+unfoldable opened : Type 0
+unfolding computing Agree allFigures session formatting changed figures past leading numberFrom figure putLine getLine delLine flushLine countLine formatLine callOf answerText linePrints lineLeaves linesOf zeroArea linesPrint
+opened = Unit {0}
+
+counts-agree : Agree counts
+unfolding opened counts
+counts-agree = (refl, (refl, (refl, (refl, (refl, (refl, (refl, (refl, tt))))))))
 
 pub agree : Agree rows
-unfolding computing rows Agree allFigures session formatting puttingZero figures past leading numberFrom figure putLine getLine delLine flushLine formatLine callOf answerText linePrints lineLeaves linesOf zeroArea linesPrint
-agree = (refl, (refl, (refl, (refl, (refl, (refl, (refl, (refl, (refl, (refl, (refl, (refl, (refl, (refl, (refl, (refl, (refl, (refl, (refl, (refl, (refl, (refl, (refl, tt)))))))))))))))))))))))
+unfolding opened rows
+agree = (refl, (refl, (refl, (refl, (refl, (refl, (refl, (refl, (refl, (refl, (refl, (refl, (refl, (refl, (refl, (refl, (refl, (refl, (refl, (refl, (refl, (refl, (refl, counts-agree)))))))))))))))))))))))

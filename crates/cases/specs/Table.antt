@@ -13,7 +13,7 @@ use Rattle.model.specs.Partition.{listedOf, bufferOf}
 use Rattle.model.specs.Answers.{Areas, Answer, done, found, absent, shown, refused}
 use Rattle.model.specs.Text.{text}
 use Rattle.model.specs.Session.{linesOf, programAreas, linesPrint}
-use Rattle.model.specs.Calls.{Call, format, put, get, del, flush, partitionIn, run, replies}
+use Rattle.model.specs.Calls.{Call, format, put, get, del, flush, count, partitionIn, reply, run, replies}
 
 abbrev pub largest : Geometry
 largest = geometry 8 4096 64 32 65536 8 1024
@@ -69,9 +69,19 @@ session cs = allFigures (replies (areas 144 128) (format G ∷ cs))
 unfoldable pub formatting : Geometry → ℕ → ℕ → List (List ℕ)
 formatting g m f = allFigures (replies (areas m f) (format g ∷ []))
 
--- what a put of 0 answers on a fresh table of G whose memory is changed so, beside so many bytes of flash
-unfoldable pub puttingZero : (List ℕ → List ℕ) → ℕ → List (List ℕ)
-puttingZero change f = allFigures (replies (record { memory = change (run (areas 144 128) (format G ∷ []) .memory); flash = zeros f }) (put 1 0 ∷ []))
+-- what a call answers after a format with G and these calls, where memory and flash are changed so in between
+unfoldable pub changed : (List ℕ → List ℕ) → (List ℕ → List ℕ) → List Call → Call → List ℕ
+changed memory flash cs c =
+    let a : Areas = run (areas 144 128) (format G ∷ cs) in
+    figures (reply (record { memory = memory (a .memory); flash = flash (a .flash) }) c)
+
+-- a put of 0 on a fresh table whose memory is changed so, beside so many bytes of flash
+abbrev pub puttingZero : (List ℕ → List ℕ) → ℕ → List ℕ
+puttingZero memory f = changed memory (take f) [] (put 1 0)
+
+-- the same areas, but with this total in the head
+abbrev pub withTotal : ℕ → List Call → Call → List ℕ
+withTotal n = changed (write 4 n 40) (λ f. f)
 
 -- six keys that differ only above bit 16: the low 16 bits have the number of one stream
 abbrev pub stream : List ℕ
@@ -85,12 +95,29 @@ streamed = format (withPages 4) ∷ map (λ k. put k 1) stream
 abbrev pub streamedIn : ℕ → ℕ
 streamedIn q = countOf (bufferOf (withPages 4) (partitionIn (run (areas 336 512) streamed) 0) q)
 
--- the worked session
+-- the worked session: its calls behind the format, its text and what that prints
+abbrev pub worked : List Call
+worked = put 1 10 ∷ put 2 20 ∷ put 3 30 ∷ put 0 40 ∷ get 2 ∷ del 2 ∷ get 2 ∷ del 3 ∷ get 3 ∷ flush 0 ∷ get 0 ∷ []
+
 abbrev pub input : String
 input = "(format (parts 0) (page 64) (pages 1) (kept 2) (bits 64) (hashes 3) (list 1))\n(put 1 10)\n(put 2 20)\n(put 3 30)\n(put 0 40)\n(get 2)\n(del 2)\n(get 2)\n(del 3)\n(get 3)\n(flush 0)\n(get 0)\n"
 
 abbrev pub output : String
 output = "(ok 0)\n(ok 0)\n(ok 0)\n(ok 0)\n(ok 1)\n(found 20 1)\n(ok 0)\n(none 0)\n(refused 14 0)\n(found 30 1)\n(ok 1)\n(found 40 1)\n"
+
+-- five keys, and the form of count
+abbrev pub counting : String
+counting = "(format (parts 0) (page 64) (pages 1) (kept 2) (bits 64) (hashes 3) (list 1))\n(put 1 10)\n(put 2 20)\n(put 3 30)\n(put 4 40)\n(put 5 50)\n(count 0)\n"
+
+abbrev pub counted : String
+counted = "(ok 0)\n(ok 0)\n(ok 0)\n(ok 0)\n(ok 1)\n(ok 0)\n(ok 5)\n"
+
+-- batch 1 of two entries and batch 2 of one, as many batches as G keeps; and so many keys in the buffer beside them
+abbrev pub batches : List Call
+batches = put 1 10 ∷ put 2 20 ∷ flush 0 ∷ put 3 30 ∷ flush 0 ∷ []
+
+abbrev pub filled : List Call
+filled = batches ++ (put 4 40 ∷ put 5 50 ∷ put 6 60 ∷ [])
 
 pub record Row : Type 0 where
   pub given : List (List ℕ)
@@ -101,6 +128,29 @@ numbers given paper = record { given = given ∷ []; paper = paper ∷ [] }
 
 abbrev pub answers : List (List ℕ) → List (List ℕ) → Row
 answers given paper = record { given = given; paper = paper }
+
+-- job 3
+unfoldable pub counts : List Row
+counts =
+    -- the total after the worked session, and in a session of its own
+    numbers (changed (λ m. m) (λ f. f) worked (count 0)) (ok 4)
+    ∷ answers (linesPrint (linesOf (text counting)) programAreas ∷ []) (text counted ∷ [])
+    -- a key appended counts, and one deleted from the buffer counts no more; a value replaced, a key flushed and a key listed change nothing
+    ∷ answers (session (put 1 10 ∷ count 0 ∷ put 1 11 ∷ count 0 ∷ put 2 20 ∷ count 0 ∷ del 1 ∷ count 0 ∷ flush 0 ∷ count 0 ∷ del 2 ∷ count 0 ∷ count 1 ∷ []))
+    (ok 0 ∷ ok 0 ∷ ok 1 ∷ ok 0 ∷ ok 1 ∷ ok 0 ∷ ok 2 ∷ ok 0 ∷ ok 1 ∷ ok 1 ∷ ok 1 ∷ ok 0 ∷ ok 1 ∷ refusedWith 4 0 ∷ [])
+    -- the third flush pushes batch 1 out with its two entries, and so does a put that flushes
+    ∷ answers (session (batches ++ (count 0 ∷ put 4 40 ∷ count 0 ∷ flush 0 ∷ count 0 ∷ [])))
+    (ok 0 ∷ ok 0 ∷ ok 0 ∷ ok 1 ∷ ok 0 ∷ ok 1 ∷ ok 3 ∷ ok 0 ∷ ok 4 ∷ ok 1 ∷ ok 2 ∷ [])
+    ∷ numbers (changed (λ m. m) (λ f. f) (filled ++ (put 7 70 ∷ [])) (count 0)) (ok 5)
+    -- it reads the page that goes, and no other
+    ∷ answers (changed (λ m. m) (write 2 4 0) filled (put 7 70) ∷ changed (λ m. m) (write 2 4 0) filled (flush 0) ∷ changed (λ m. m) (write 2 4 64) filled (put 7 70) ∷ [])
+    (refusedWith 13 1 ∷ refusedWith 13 1 ∷ ok 1 ∷ [])
+    -- 12: a total above (K + 1) × Q × E, which is 9 in G
+    ∷ answers (withTotal 9 [] (count 0) ∷ withTotal 10 [] (count 0) ∷ withTotal 10 [] (get 1) ∷ []) (ok 9 ∷ refusedWith 12 0 ∷ refusedWith 12 0 ∷ [])
+    -- and where the call would end with one past that, or below 0
+    ∷ answers (withTotal 9 [] (put 1 10) ∷ withTotal 9 (put 1 10 ∷ []) (put 1 11) ∷ withTotal 0 (put 1 10 ∷ []) (del 1) ∷ withTotal 1 filled (flush 0) ∷ withTotal 1 filled (put 7 70) ∷ [])
+    (refusedWith 12 0 ∷ ok 0 ∷ refusedWith 12 0 ∷ refusedWith 12 0 ∷ ok 1 ∷ [])
+    ∷ []
 
 unfoldable pub rows : List Row
 rows =
@@ -132,23 +182,23 @@ rows =
     (refusedWith 1 0 ∷ refusedWith 1 0 ∷ refusedWith 1 0 ∷ refusedWith 1 0 ∷ [])
     ∷ answers (allFigures (replies (areas 144 128) (get 1 ∷ []))) (refusedWith 11 0 ∷ [])
     -- "The session program": its calls, and its text over two areas of 32,768 zero bytes
-    ∷ answers (session (put 1 10 ∷ put 2 20 ∷ put 3 30 ∷ put 0 40 ∷ get 2 ∷ del 2 ∷ get 2 ∷ del 3 ∷ get 3 ∷ flush 0 ∷ get 0 ∷ []))
+    ∷ answers (session worked)
     (ok 0 ∷ ok 0 ∷ ok 0 ∷ ok 0 ∷ ok 1 ∷ foundWith 20 1 ∷ ok 0 ∷ noneWith 0 ∷ refusedWith 14 0 ∷ foundWith 30 1 ∷ ok 1 ∷ foundWith 40 1 ∷ [])
     ∷ answers (linesPrint (linesOf (text input)) programAreas ∷ []) (text output ∷ [])
     -- job 1: a put of 0 is refused, also for a key that its page has and for a full page, where nothing is flushed then
     ∷ answers (session (put 5 0 ∷ put 1 10 ∷ put 2 20 ∷ put 3 1 ∷ put 3 0 ∷ put 5 0 ∷ get 3 ∷ get 5 ∷ []))
     (ok 0 ∷ refusedWith 21 0 ∷ ok 0 ∷ ok 0 ∷ ok 0 ∷ refusedWith 21 0 ∷ refusedWith 21 0 ∷ foundWith 1 0 ∷ noneWith 0 ∷ [])
     -- behind 2, 11, 2 and 3
-    ∷ answers (puttingZero (take 31) 128 ++ puttingZero (write 4 1 28) 128 ++ puttingZero (take 143) 128 ++ puttingZero (λ m. m) 127)
+    ∷ answers (puttingZero (take 31) 128 ∷ puttingZero (write 4 1 28) 128 ∷ puttingZero (take 143) 128 ∷ puttingZero (λ m. m) 127 ∷ [])
     (refusedWith 2 0 ∷ refusedWith 11 0 ∷ refusedWith 2 0 ∷ refusedWith 3 0 ∷ [])
     -- before 12, of the list and of the key's page
-    ∷ answers (puttingZero (write 4 2 36) 128 ++ puttingZero (write 2 4 80) 128) (refusedWith 21 0 ∷ refusedWith 21 0 ∷ [])
+    ∷ answers (puttingZero (write 4 2 36) 128 ∷ puttingZero (write 2 4 80) 128 ∷ []) (refusedWith 21 0 ∷ refusedWith 21 0 ∷ [])
     -- job 2: the pages of these six keys
     ∷ numbers (map (pageOf (withPages 4)) stream) (3 ∷ 2 ∷ 0 ∷ 1 ∷ 3 ∷ 1 ∷ [])
     -- three fill a page, and six go into four pages without a flush
     ∷ answers (allFigures (replies (areas 336 512) streamed)) (ok 0 ∷ ok 0 ∷ ok 0 ∷ ok 0 ∷ ok 0 ∷ ok 0 ∷ ok 0 ∷ [])
     ∷ numbers (map streamedIn (0 ∷ 1 ∷ 2 ∷ 3 ∷ [])) (1 ∷ 2 ∷ 1 ∷ 2 ∷ [])
-    ∷ []
+    ∷ counts
 
 -- every row agrees
 unfoldable pub Agree : List Row → Type 0

@@ -3,10 +3,11 @@ use Prim.Native.Nat.{ℕ}
 use mathlib.Core.List.{List, [], _∷_}
 use mathlib.Core.Path.{_≡_, refl, sym, _∙_, ap, ap₂}
 use Rattle.model.specs.Answers.{Areas, Answer}
-use Rattle.model.specs.Calls.{Call, reply, after, run, replies}
-use Rattle.history.specs.History.{heard, events}
-use Rattle.history.specs.Claim.{isRefused, Demand3}
+use Rattle.model.specs.Calls.{Call, format, reply, after, run, replies}
+use Rattle.history.specs.History.{History, heard, remember, events}
+use Rattle.history.specs.Claim.{isRefused, Demand3, Counts, CountsHeld}
 use Rattle.history.proofs.Demand.{demand3}
+use Rattle.history.proofs.Counting.{counts-held}
 use Rattle.answers.specs.Performs.{areas}
 use Rattle.chain.specs.Chain.{Performed, none, next, heardOf, CallsKeepDemand3}
 
@@ -25,13 +26,19 @@ unfolding heardOf replies events
 heard-events [] a = refl
 heard-events (c ∷ cs) a = ap (λ es. heard c (reply a c) ∷ es) (heard-events cs (after a c))
 
+same-counts : {a a′ : Areas} {h h′ : History} → a′ ≡ a → h′ ≡ h → Counts a h → Counts a′ h′
+same-counts e e′ held = rw (e, e′) held
+
 pub calls-keep-demand3 : CallsKeepDemand3
-unfolding CallsKeepDemand3 Demand3
+unfolding CallsKeepDemand3 Demand3 CountsHeld
 calls-keep-demand3 m f m′ f′ h g cs r rs (next p ps) accepted fits =
     let told = chain-answers (next p ps) in
     let left = chain-leaves (next p ps) in
+    let hears = ap (heardOf (format g ∷ cs)) told ∙ heard-events (format g ∷ cs) (areas m f) in
+    let opened = sym (ap isRefused (p .answers)) ∙ accepted in
     record {
       answers = told;
       leaves = left;
-      holds = rw (left, told, heard-events) (demand3 (areas m f) h g (sym (ap isRefused (p .answers)) ∙ accepted) cs fits);
+      holds = rw (left, hears) (demand3 (areas m f) h g opened cs fits);
+      counts = same-counts left (ap (remember h) hears) (counts-held (areas m f) h g opened cs fits);
     }

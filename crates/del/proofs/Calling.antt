@@ -9,8 +9,9 @@ use Rattle.model.specs.Bytes.{within}
 use Rattle.model.specs.Calls.{Call, checks}
 use Rattle.model.specs.Del.{delChecks, unbuffered, listedWith, deleted}
 use Rattle.model.specs.Geometry.{stride, partitionAt}
-use Rattle.model.specs.Keys.{partitionOf}
-use Rattle.model.specs.Partition.{partition}
+use Rattle.model.specs.Keys.{partitionOf, pageOf}
+use Rattle.model.specs.Page.{taken}
+use Rattle.model.specs.Partition.{totalled, bufferOf, partition}
 use Rattle.model.proofs.Parts.{within-id, within-same}
 use Rattle.model.proofs.Sizes.{partition-of-lt}
 use Rattle.model.proofs.Calls.{checks-del, result-del, effect-del}
@@ -55,7 +56,7 @@ module _ (g : Geometry) (m f : List ℕ) (table : IsTable g m f) (k : ℕ) where
   can-remove y h = meant (Plan.Remove y) h .1
 
   pub removes : (y : Youngest) (m′ : List ℕ) → planFor g k own ≡ Plan.Remove y
-      → m′ ≡ within (partitionAt g (partitionOf g k)) (stride g) (λ p. listedWith (stamp y) g k (unbuffered g k p)) m → Performs (Call.del k) m f (done 0) m′ f
+      → m′ ≡ within (partitionAt g (partitionOf g k)) (stride g) (λ p. totalled 0 (taken k (bufferOf g p (pageOf g k))) (listedWith (stamp y) g k (unbuffered g k p))) m → Performs (Call.del k) m f (done 0) m′ f
   removes y m′ h e =
       let w = meant (Plan.Remove y) h in
-      deletes m′ (w .0) (e ∙ within-same _ _ (λ (p : List ℕ). listedWith (stamp y) g k (unbuffered g k p)) (deleted g k) m (sym (w .2)))
+      deletes m′ (w .0) (e ∙ within-same _ _ (λ (p : List ℕ). totalled 0 (taken k (bufferOf g p (pageOf g k))) (listedWith (stamp y) g k (unbuffered g k p))) (deleted g k) m (sym (w .2)))

@@ -6,16 +6,17 @@ ghost use Prim.Native.Nat.{_≤_, _<_};
 ghost use lib.ListN.{length};
 ghost use Rattle.model.specs.Bytes.{within};
 ghost use Rattle.model.specs.Geometry.{allowed, stride, partitionAt, memoryNeed};
-ghost use Rattle.model.specs.Keys.{partitionOf};
-ghost use Rattle.model.specs.Partition.{headOf, listedOf, partition};
-ghost use Rattle.model.specs.Refusals.{headOverfull};
+ghost use Rattle.model.specs.Keys.{partitionOf, pageOf};
+ghost use Rattle.model.specs.Page.{taken};
+ghost use Rattle.model.specs.Partition.{headOf, listedOf, totalled, bufferOf, partition};
+ghost use Rattle.model.specs.Refusals.{headOverfull, keyOverfull};
 ghost use Rattle.model.specs.Del.{stampFor, unbuffered, listedWith};
 ghost use Rattle.model.specs.Calls.{Call};
 ghost use Rattle.partition.specs.Ready.{Whole};
 ghost use Rattle.answers.specs.Told.{written};
 ghost use Rattle.answers.specs.Performs.{Performs};
 ghost use Rattle.opening.specs.Opened.{IsTable};
-ghost use Rattle.del.specs.Plans.{stamp, planListing, planFor, Listable};
+ghost use Rattle.del.specs.Plans.{stamp, planRemoval, planListing, planFor, Listable};
 use answers::Refusal;
 use answers::Written;
 use head::Head;
@@ -56,10 +57,28 @@ fn stamp_for(part: &[u8], g: Geometry, key: u64) -> Youngest
     Youngest::Nowhere
 }
 
-// 14 for a key that must be listed and finds no place.
+// 12 for a key in its page that the total does not count. Only a total of 0 has the page searched.
+fn plan_removal(part: &[u8], g: Geometry, key: u64, youngest: Youngest) -> Plan
+    requires { ⌜ Whole g (now part) ⌝ }
+    requires { ⌜ keyOverfull g key (now part) ≡ false ⌝ }
+    ensures { λ r. ⌜ r ≡ planRemoval g key youngest (now (part .entry)) ⌝ }
+{
+    if Head::read(part).total != 0 {
+        return Plan::Remove(youngest);
+    }
+    match buffer::find(part, g, keys::page_of(g, key), key) {
+        Found::At(_) => Plan::Refused(Refusal {
+            number: 12,
+            reads: 0,
+        }),
+        Found::Nothing => Plan::Remove(youngest),
+    }
+}
+
+// 14 for a key that must be listed and finds no place, then 12.
 fn plan_listing(part: &[u8], g: Geometry, key: u64) -> Plan
     requires { ⌜ Whole g (now part) ⌝ }
-    requires { ⌜ headOverfull g (headOf (now part)) ≡ false ⌝ }
+    requires { ⌜ keyOverfull g key (now part) ≡ false ⌝ }
     ensures { λ r. ⌜ r ≡ planListing g key (now (part .entry)) ⌝ }
 {
     match stamp_for(part, g, key) {
@@ -70,13 +89,13 @@ fn plan_listing(part: &[u8], g: Geometry, key: u64) -> Plan
                     reads: 0,
                 });
             }
-            Plan::Remove(Youngest::Batch(n))
+            plan_removal(part, g, key, Youngest::Batch(n))
         }
-        Youngest::Nowhere => Plan::Remove(Youngest::Nowhere),
+        Youngest::Nowhere => plan_removal(part, g, key, Youngest::Nowhere),
     }
 }
 
-// 12, 14; and what is to be done.
+// 12, 14, 12; and what is to be done.
 pub fn decide(part: &[u8], g: Geometry, key: u64) -> Plan
     requires { ⌜ Whole g (now part) ⌝ }
     ensures { λ r. ⌜ r ≡ planFor g key (now (part .entry)) ⌝ }
@@ -104,17 +123,18 @@ fn list(part: &mut [u8], g: Geometry, key: u64, batch: u32)
     head::put_back(part, head.listed());
 }
 
-// The key's first entry leaves its buffer page, and the key is listed where a batch's filter passes it.
+// The key's first entry leaves its buffer page and the total, and the key is listed where a batch's filter passes it.
 fn apply(part: &mut [u8], g: Geometry, key: u64, youngest: Youngest)
     requires { ⌜ Whole g (now part) ⌝ }
     requires { ⌜ Listable g key (stamp youngest) (now part) ⌝ }
-    ensures { λ _. ⌜ now (part .exit) ≡ listedWith (stamp youngest) g key (unbuffered g key (now (part .entry))) ⌝ }
+    ensures { λ _. ⌜ now (part .exit) ≡ totalled 0 (taken key (bufferOf g (now (part .entry)) (pageOf g key))) (listedWith (stamp youngest) g key (unbuffered g key (now (part .entry)))) ⌝ }
 {
-    buffer::drop_key(part, g, key);
+    let less = buffer::drop_key(part, g, key);
     match youngest {
         Youngest::Batch(n) => list(part, g, key, n),
         Youngest::Nowhere => {}
     }
+    head::change_total(part, 0, less);
 }
 
 // The same in the key's partition of memory.
@@ -122,7 +142,7 @@ fn apply_at(memory: &mut [u8], g: Geometry, key: u64, youngest: Youngest)
     requires { ⌜ allowed g ≡ true ⌝ }
     requires { ⌜ memoryNeed g ≤ length (now memory) ⌝ }
     requires { ⌜ Listable g key (stamp youngest) (partition g (partitionOf g key) (now memory)) ⌝ }
-    ensures { λ _. ⌜ now (memory .exit) ≡ within (partitionAt g (partitionOf g key)) (stride g) (λ p. listedWith (stamp youngest) g key (unbuffered g key p)) (now (memory .entry)) ⌝ }
+    ensures { λ _. ⌜ now (memory .exit) ≡ within (partitionAt g (partitionOf g key)) (stride g) (λ p. totalled 0 (taken key (bufferOf g p (pageOf g key))) (listedWith (stamp youngest) g key (unbuffered g key p))) (now (memory .entry)) ⌝ }
 {
     let a = keys::key_partition_at(g, key);
     let e = a + geometry::partition_size(g);

@@ -1,28 +1,26 @@
 // What a flush writes: the partition's buffer pages become a batch in flash.
 ghost use mathlib.Core.Bool.{true};
 ghost use mathlib.Core.Path.{_≡_};
-ghost use Prim.Native.Nat.{_≤_, _<_};
+ghost use Prim.Native.Nat.{_+_, _≤_, _<_};
 ghost use lib.ListN.{length};
 ghost use Rattle.model.specs.Bytes.{within};
 ghost use Rattle.model.specs.Geometry.{allowed, partitions, stride, partitionAt, memoryNeed, flashNeed};
-ghost use Rattle.model.specs.Partition.{partition, flushesOf};
-ghost use Rattle.model.specs.Refusals.{lastFlush};
+ghost use Rattle.model.specs.Partition.{partition, flushesOf, slot};
 ghost use Rattle.model.specs.Format.{emptiedPages};
 ghost use Rattle.model.specs.Flush.{flushed, withBatch};
 ghost use Rattle.partition.specs.Ready.{Whole, Flushable};
 use head::Head;
 use model::Geometry;
 
-// The batch is written whole: each buffer page goes into its slot's page, with the new flush number, and is emptied while it is at hand.
-fn move_batch(part: &mut [u8], flash: &mut [u8], g: Geometry, t: u32)
+// Batch n is written whole to slot j: each buffer page goes into its slot's page, with the new flush number, and is emptied while it is at hand.
+fn move_batch(part: &mut [u8], flash: &mut [u8], g: Geometry, t: u32, n: u32, j: u32)
     requires { ⌜ Whole g (now part) ⌝ }
     requires { ⌜ t < partitions g ⌝ }
-    requires { ⌜ flushesOf (now part) < lastFlush ⌝ }
+    requires { ⌜ n ≡ flushesOf (now part) + 1 ⌝ }
+    requires { ⌜ j ≡ slot g n ⌝ }
     requires { ⌜ flashNeed g ≤ length (now flash) ⌝ }
     ensures { λ _. ⌜ (now (part .exit) ≡ emptiedPages g t (g .pages) (now (part .entry))) × (now (flash .exit) ≡ withBatch g t (now (part .entry)) (g .pages) (now (flash .entry))) ⌝ }
 {
-    let n = Head::read(part).flushes + 1;
-    let j = geometry::slot_of(g, n);
     let pages = g.pages;
     let size = g.page as usize;
     let mut q = 0;
@@ -35,20 +33,32 @@ fn move_batch(part: &mut [u8], flash: &mut [u8], g: Geometry, t: u32)
     }
 }
 
-// The partition and flash after the flush.
-pub fn apply(part: &mut [u8], flash: &mut [u8], g: Geometry, t: u32)
+// The partition and flash after the flush, whose batch goes to slot j. A call has found the slot for the outgoing batch, so it is handed on: LLVM then divides once.
+pub fn apply(part: &mut [u8], flash: &mut [u8], g: Geometry, t: u32, j: u32)
     requires { ⌜ Whole g (now part) ⌝ }
     requires { ⌜ Flushable g t (now part) ⌝ }
     requires { ⌜ flashNeed g ≤ length (now flash) ⌝ }
+    requires { ⌜ j ≡ slot g (flushesOf (now part) + 1) ⌝ }
     ensures { λ _. ⌜ (now (part .exit) ≡ flushed g t (now (part .entry))) × (now (flash .exit) ≡ withBatch g t (now (part .entry)) (g .pages) (now (flash .entry))) ⌝ }
 {
     let head = Head::read(part);
     let flushes = head.flushes;
     let listed = head.listed;
-    filter::make(part, g, geometry::slot_of(g, flushes + 1));
+    filter::make(part, g, j);
     let stay = list::expire(part, g, flushes, listed);
-    move_batch(part, flash, g, t);
+    move_batch(part, flash, g, t, flushes + 1, j);
     head::put_back(part, head.flushed().unlisted(listed - stay as u32));
+}
+
+// The same, to the slot of the next batch.
+fn apply_next(part: &mut [u8], flash: &mut [u8], g: Geometry, t: u32)
+    requires { ⌜ Whole g (now part) ⌝ }
+    requires { ⌜ Flushable g t (now part) ⌝ }
+    requires { ⌜ flashNeed g ≤ length (now flash) ⌝ }
+    ensures { λ _. ⌜ (now (part .exit) ≡ flushed g t (now (part .entry))) × (now (flash .exit) ≡ withBatch g t (now (part .entry)) (g .pages) (now (flash .entry))) ⌝ }
+{
+    let j = geometry::slot_of(g, Head::read(part).flushes + 1);
+    apply(part, flash, g, t, j);
 }
 
 // Both areas after the flush of partition t.
@@ -61,5 +71,5 @@ pub fn apply_at(memory: &mut [u8], flash: &mut [u8], g: Geometry, t: u32)
 {
     let a = geometry::partition_at(g, t);
     let e = a + geometry::partition_size(g);
-    apply(&mut memory[a..e], flash, g, t);
+    apply_next(&mut memory[a..e], flash, g, t);
 }

@@ -2,7 +2,7 @@
 ghost use mathlib.Core.Bool.{true};
 ghost use mathlib.Core.Path.{_≡_};
 ghost use Prim.Native.Nat.{ℕ, _+_, _≤_, _<_};
-ghost use Rattle.model.specs.Geometry.{isPower, allowed, partitions, capacity, filterSize, filterAt, bufferAt, stride, partitionAt, memoryNeed, slotPageAt, flashNeed};
+ghost use Rattle.model.specs.Geometry.{isPower, allowed, partitions, capacity, mostEntries, filterSize, filterAt, bufferAt, stride, partitionAt, memoryNeed, slotPageAt, flashNeed};
 ghost use Rattle.model.specs.Partition.{slot};
 use model::Geometry;
 
@@ -67,6 +67,14 @@ pub fn page_capacity(g: Geometry) -> usize
     ensures { λ r. ⌜ r ≡ capacity g ⌝ }
 {
     (g.page / 16 - 1) as usize
+}
+
+// Entries that a partition's buffer and live batches have room for.
+pub fn most_entries(g: Geometry) -> u32
+    requires { ⌜ allowed g ≡ true ⌝ }
+    ensures { λ r. ⌜ r ≡ mostEntries g ⌝ }
+{
+    (g.kept + 1) * g.pages * (g.page / 16 - 1)
 }
 
 pub fn filter_size(g: Geometry) -> u32

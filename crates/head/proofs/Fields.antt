@@ -10,3 +10,6 @@ module _ {r : Head} {h : model.Head} (e : asHead r ≡ h) where
 
   pub listed-is : r .listed ≡ h .listed
   listed-is = ap (λ (x : model.Head). x .listed) e
+
+  pub total-is : r .total ≡ h .total
+  total-is = ap (λ (x : model.Head). x .total) e

@@ -1,18 +1,20 @@
 // A partition's head, read as one record, changed and put back.
-ghost use mathlib.Core.Bool.{false};
+ghost use mathlib.Core.Bool.{true, false};
 ghost use mathlib.Core.Path.{_≡_};
-ghost use Prim.Native.Nat.{_≤_, _<_};
+ghost use Prim.Native.Nat.{_+_, _≤_, _<_};
 ghost use lib.ListN.{length};
-ghost use Rattle.model.specs.Partition.{headOf, flushedHead, listedHead, unlistedHead, withHead, live, isLive};
-ghost use Rattle.model.specs.Refusals.{headOverfull};
+ghost use Rattle.model.specs.Partition.{headOf, flushedHead, listedHead, unlistedHead, totalledHead, withHead, totalled, totalOf, live, isLive};
+ghost use Rattle.model.specs.Refusals.{headOverfull, totalOut};
+ghost use Rattle.model.specs.Geometry.{allowed};
 ghost use Rattle.head.specs.Heads.{asHead};
 use model::Geometry;
 
-// Flushes done, listed keys, and 8 bytes that are carried along.
+// Flushes done, listed keys, the total of the partition's entries, and 4 bytes that are carried along.
 pub struct Head {
     pub flushes: u32,
     pub listed: u32,
-    pub rest: u64,
+    pub total: u32,
+    pub rest: u32,
 }
 
 impl Head {
@@ -23,15 +25,31 @@ impl Head {
         Self {
             flushes: words::u32_at(part, 0),
             listed: words::u32_at(part, 4),
-            rest: words::u64_at(part, 8),
+            total: words::u32_at(part, 8),
+            rest: words::u32_at(part, 12),
         }
     }
 
-    // 12: does it say more listed keys than there are places?
+    // 12: does it say more listed keys, or more entries, than there is room for?
     pub fn is_overfull(self, g: Geometry) -> bool
+        requires { ⌜ allowed g ≡ true ⌝ }
         ensures { λ r. ⌜ r ≡ headOverfull g (asHead self) ⌝ }
     {
-        g.list < self.listed
+        (g.list < self.listed) | (geometry::most_entries(g) < self.total)
+    }
+
+    // 12: is the total below 0, or more than there is room for, with so many entries more and so many less?
+    pub fn is_total_out(self, g: Geometry, more: u32, less: u32) -> bool
+        requires { ⌜ allowed g ≡ true ⌝ }
+        requires { ⌜ headOverfull g (asHead self) ≡ false ⌝ }
+        requires { ⌜ more ≤ 1 ⌝ }
+        ensures { λ r. ⌜ r ≡ totalOut g more less (asHead self) ⌝ }
+    {
+        let total = self.total + more;
+        if total < less {
+            return true;
+        }
+        geometry::most_entries(g) < total - less
     }
 
     // How many batches are live.
@@ -66,6 +84,7 @@ impl Head {
         Self {
             flushes: self.flushes + 1,
             listed: self.listed,
+            total: self.total,
             rest: self.rest,
         }
     }
@@ -87,6 +106,16 @@ impl Head {
         self.listed = self.listed - n;
         self
     }
+
+    // So many entries more, and so many less.
+    pub fn totalled(mut self, more: u32, less: u32) -> Self
+        requires { ⌜ self .total + more < 4294967296 ⌝ }
+        requires { ⌜ less ≤ self .total + more ⌝ }
+        ensures { λ r. ⌜ asHead r ≡ totalledHead more less (asHead self) ⌝ }
+    {
+        self.total = self.total + more - less;
+        self
+    }
 }
 
 // The head stands in the partition again.
@@ -96,5 +125,16 @@ pub fn put_back(part: &mut [u8], head: Head)
 {
     words::write_u32(part, 0, head.flushes);
     words::write_u32(part, 4, head.listed);
-    words::write_u64(part, 8, head.rest);
+    words::write_u32(part, 8, head.total);
+    words::write_u32(part, 12, head.rest);
+}
+
+// The partition's total, with so many entries more and so many less.
+pub fn change_total(part: &mut [u8], more: u32, less: u32)
+    requires { ⌜ 16 ≤ length (now part) ⌝ }
+    requires { ⌜ totalOf (now part) + more < 4294967296 ⌝ }
+    requires { ⌜ less ≤ totalOf (now part) + more ⌝ }
+    ensures { λ _. ⌜ now (part .exit) ≡ totalled more less (now (part .entry)) ⌝ }
+{
+    put_back(part, Head::read(part).totalled(more, less));
 }

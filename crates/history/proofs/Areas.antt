@@ -11,7 +11,7 @@ use Rattle.model.specs.declared.Geometry.{Geometry}
 use Rattle.model.specs.Bytes.{mid, within}
 use Rattle.model.specs.Geometry.{allowed, partitions, partitionAt, stride, memoryNeed, flashNeed, slotPageAt}
 use Rattle.model.specs.Opening.{eighth}
-use Rattle.model.specs.Partition.{partition, slot}
+use Rattle.model.specs.Partition.{partition, totalOf, slot}
 use Rattle.model.specs.Answers.{Areas, Refusal}
 use Rattle.model.specs.Refusals.{unopened}
 use Rattle.model.specs.Calls.{geometryIn}
@@ -22,6 +22,7 @@ use Rattle.model.proofs.Partitions.{modify, modify-at, modify-off}
 use Rattle.model.proofs.Calls.{opens, changedAt}
 use Rattle.model.proofs.PartitionsFormat.{opening-kept}
 use Rattle.history.proofs.Table.{Part}
+use Rattle.history.proofs.Totals.{entriesAll}
 use Rattle.history.proofs.Shows.{ShowsPart, same-batch-page}
 
 pub record Shows (a : Areas) (g : Geometry) (ps : ℕ → Part) : Type 0 where
@@ -31,6 +32,10 @@ pub record Shows (a : Areas) (g : Geometry) (ps : ℕ → Part) : Type 0 where
   pub memoryFits : memoryNeed g ≤ length (a .memory)
   pub flashFits : flashNeed g ≤ length (a .flash)
   pub part : (t : ℕ) → t < partitions g → ShowsPart g t (partition g t (a .memory)) (a .flash) (ps t)
+
+-- and each head's total is the number of its partition's entries
+abbrev pub AllCounted : Areas → Geometry → (ℕ → Part) → Type 0
+AllCounted a g ps = (t : ℕ) → t < partitions g → totalOf (partition g t (a .memory)) ≡ entriesAll g (ps t)
 
 -- the checks that every call but format begins with stop nothing
 pub shows-opens : (a : Areas) (g : Geometry) (ps : ℕ → Part) → Shows a g ps → (later : Option Refusal) → unopened a later ≡ later
@@ -69,6 +74,15 @@ module _ (a : Areas) (g : Geometry) (ps : ℕ → Part) (shows : Shows a g ps) (
   elsewhere : (u : ℕ) → u < partitions g → (u ≡ t → ⊥) → partition g u (within (partitionAt g t) (stride g) c (a .memory)) ≡ partition g u (a .memory)
   elsewhere u l e = mid-within-out (partitionAt g t) (stride g) c (a .memory) (partitionAt g u) (stride g) (memory-fits u l) (partitions-apart g t u (λ x. e (sym x)))
 
+  -- what holds of the changed partition, and of each other one, holds of each
+  pub each-changed : (P : ℕ → List ℕ → Part → Type 0) → length (c (partition g t (a .memory))) ≡ stride g → P t (c (partition g t (a .memory))) (c′ (ps t))
+      → ((u : ℕ) → (u ≡ t → ⊥) → u < partitions g → P u (partition g u (a .memory)) (ps u))
+      → (u : ℕ) → u < partitions g → P u (partition g u (within (partitionAt g t) (stride g) c (a .memory))) (modify t c′ ps u)
+  each-changed P long now others u l = elim (ℕ-discrete u t) [
+    | yes e ↦ rw (e, modify-at t c′ ps t refl, here long) now
+    | no e ↦ rw (modify-off t c′ ps u e, elsewhere u l e) (others u e l)
+  ]
+
   pub shows-changed : length flash ≡ length (a .flash)
       → ((u j q : ℕ) → (u ≡ t → ⊥) → u < partitions g → j < g .kept → q < g .pages → mid (slotPageAt g u j q) (g .page) flash ≡ mid (slotPageAt g u j q) (g .page) (a .flash))
       → ShowsPart g t (c (partition g t (a .memory))) flash (c′ (ps t))
@@ -79,8 +93,5 @@ module _ (a : Areas) (g : Geometry) (ps : ℕ → Part) (shows : Shows a g ps) (
     eighthZero = word-within-out 4 (partitionAt g t) (stride g) c (a .memory) 28 (omega (arith, partition-from g t)) ∙ shows .eighthZero;
     memoryFits = rw length-within (shows .memoryFits);
     flashFits = rw long (shows .flashFits);
-    part = λ u l. elim (ℕ-discrete u t) [
-      | yes e ↦ rw (e, modify-at t c′ ps t refl, here (now .long)) now
-      | no e ↦ rw (modify-off t c′ ps u e, elsewhere u l e) (same-flash flash (shows .ok) (λ j q. same u j q e l) (shows .part u l))
-    ];
+    part = each-changed (λ u p s. ShowsPart g u p flash s) (now .long) now (λ u e l. same-flash flash (shows .ok) (λ j q. same u j q e l) (shows .part u l));
   }

@@ -42,6 +42,7 @@ module _ (g : Geometry) (k : ℕ) (w : Option Known) (p : Part) (ok : PartOk g p
       ];
       apart = modify-all (λ q. Distinct) (pageOf g k) c (p .buffer) (λ q e. rw e bufferOnce) (λ q e. ok .apart q);
       fits = modify-all (λ q b. length b ≤ capacity g) (pageOf g k) c (p .buffer) (λ q e. rw e bufferFits) (λ q e. ok .fits q);
+      batchFits = ok .batchFits;
     };
     own = own;
     other = λ j n v. told-same (others j n) (λ a. elim a as (λ a. seen g (changed g k p l c) j a ≡ seen g p j a) [

@@ -1,50 +1,37 @@
--- On areas that show a table the checks come down to those of the arguments and of what the table holds: 4, 14, 15, 16, 17, 21. Refusals 2, 3, 11 and 12 do not come up.
+-- On areas that show a table, with heads that count its entries, the checks come down to those of the arguments and of what the table holds: 4, 14, 15, 16, 17, 21.
+-- Refusals 2, 3, 11 and 12 do not come up, neither does the 12 that comes last, nor the 13 of a put or a flush.
 use Prim.Native.Nat.{ℕ, _^_, _≤_, _<_}
-use mathlib.Core.Bool.{Bool, true, false, not, _&&_, _||_, and-false}
-use mathlib.Core.Path.{_≡_, refl, _∙_, ap}
-use mathlib.Core.List.{List, [], _∷_}
+use mathlib.Core.Bool.{true, false, not, _&&_, _||_, and-false}
+use mathlib.Core.Path.{_≡_, _∙_}
+use mathlib.Core.List.{List}
 use mathlib.Core.Option.{Option, none, some}
 use native.Mathlib.Omega.{arith}
 use lib.Dec.{eqb, ltb}
 use lib.ListN.{length}
 use Rattle.model.specs.declared.Geometry.{Geometry}
-use Rattle.model.specs.Search.{isSome}
-use Rattle.model.specs.Geometry.{allowed, partitions}
+use Rattle.model.specs.Geometry.{partitions}
 use Rattle.model.specs.Keys.{partitionOf, pageOf}
 use Rattle.model.specs.Partition.{partition, headOf, flushesOf, isLive}
 use Rattle.model.specs.Answers.{Areas, Refusal, unread}
 use Rattle.model.specs.Refusals.{refuseIf, unopened, headOverfull, keyOverfull, somePageOverfull, lastFlush}
 use Rattle.model.specs.Flush.{inUse}
 use Rattle.model.specs.Put.{noPosition, due}
-use Rattle.model.specs.Del.{isListed, youngest, stampFor}
-use Rattle.model.specs.Calls.{put, get, del, flush, view, checks}
+use Rattle.model.specs.Calls.{put, get, del, flush, view, count, checks}
 use Rattle.model.proofs.Sizes.{page-of-lt, partition-of-lt}
-use Rattle.model.proofs.Tables.{find}
+use Rattle.model.proofs.Tests.{either}
 use Rattle.model.proofs.Heads.{fits-head}
-use Rattle.model.proofs.Checks.{fits-page, fits-pages, fits-key, get-passes, put-last, del-full, flush-4, flush-last, view-4, view-last}
-use Rattle.model.proofs.Calls.{checks-put, checks-get, checks-del, checks-flush, checks-view}
-use Rattle.history.proofs.Table.{Part, isEmpty, mustList, due as dueIn, passing as passingOf}
+use Rattle.model.proofs.Checks.{fits-page, fits-pages, fits-key, get-passes, put-21, put-undue, put-due, del-full, due-last, flush-4, flush-last, count-4, count-passes, view-4, view-last}
+use Rattle.model.proofs.Calls.{checks-put, checks-get, checks-del, checks-flush, checks-view, checks-count}
+use Rattle.history.proofs.Table.{Part, mustList, due as dueIn}
 use Rattle.history.proofs.Core.{PartOk}
-use Rattle.history.proofs.Pages.{page-has, page-count}
-use Rattle.history.proofs.Shows.{ShowsPart, list-count, list-has}
-use Rattle.history.proofs.Passing.{passing-shown}
-use Rattle.history.proofs.Areas.{Shows, shows-opens}
+use Rattle.history.proofs.Totals.{all-most}
+use Rattle.history.proofs.Shows.{ShowsPart, list-count}
+use Rattle.history.proofs.Passing.{must-list-shown}
+use Rattle.history.proofs.Totalling.{due-shown, heads-shown}
+use Rattle.history.proofs.Ends.{Counted, flush-in, put-in, flushed-put-in, del-in}
+use Rattle.history.proofs.Areas.{Shows, AllCounted, shows-opens}
 
-module _ (g : Geometry) (ok : allowed g ≡ true) (t : ℕ) (p f : List ℕ) (s : Part) (shows : ShowsPart g t p f s) where
-  -- when a put flushes, and when a del lists
-  pub due-shown : (k : ℕ) → due g k p ≡ dueIn g k s
-  unfolding due dueIn
-  due-shown k = let page = shows .buffer (pageOf g k) (page-of-lt g ok k) in rw (page-has page k, page-count page)
-
-  must-list-shown : s .live ≤ s .flushes → (k : ℕ) → not (isListed g k p) && isSome (stampFor g k p) ≡ mustList g k s
-  unfolding mustList
-  must-list-shown within k = rw (list-has shows k, passing-shown g ok t p f s shows k within) (ap (λ (b : Bool). not (isSome (find k (s .list))) && b) (some-youngest (passingOf g k s)))
-    where
-      some-youngest : (ns : List ℕ) → isSome (youngest ns) ≡ not (isEmpty ns)
-      some-youngest [] = refl
-      some-youngest (n ∷ ns) = refl
-
-module _ (a : Areas) (g : Geometry) (ps : ℕ → Part) (shows : Shows a g ps) (fits : (t : ℕ) → PartOk g (ps t)) where
+module _ (a : Areas) (g : Geometry) (ps : ℕ → Part) (shows : Shows a g ps) (counted : AllCounted a g ps) (fits : (t : ℕ) → PartOk g (ps t)) where
   opening : (later : Option Refusal) → unopened a later ≡ later
   opening = shows-opens a g ps shows
 
@@ -56,9 +43,13 @@ module _ (a : Areas) (g : Geometry) (ps : ℕ → Part) (shows : Shows a g ps) (
     at : ShowsPart g t p (a .flash) (ps t)
     at = shows .part t below
 
+    was : Counted g t p (a .flash) (ps t)
+    was = record { shown = at; total = counted t below }
+
     head-ok : headOverfull g (headOf p) ≡ false
     head-ok = fits-head g (headOf p) (record {
       list = omega (arith, list-count at, fits t .listFits);
+      total = rw (counted t below) (all-most g (ps t) (fits t));
       kept = rw (at .live) (fits t .liveKept);
       flushed = rw (at .live, at .flushes) (fits t .liveFlushed);
     })
@@ -67,7 +58,13 @@ module _ (a : Areas) (g : Geometry) (ps : ℕ → Part) (shows : Shows a g ps) (
     pages-ok = fits-pages g p (λ q l. at .buffer q l .fits)
 
     pub flush-checks : checks a (flush t) ≡ refuseIf (not (inUse g p)) 15 (refuseIf (eqb (flushesOf p) lastFlush) 16 none)
-    flush-checks = checks-flush a g (shows .geometry) opening t ∙ flush-last g t p below head-ok pages-ok
+    flush-checks =
+        let ok = shows .ok in
+        checks-flush a g (shows .geometry) opening t ∙ flush-last g t p (a .flash) below head-ok pages-ok
+        ∙ rw (due-last g t 0 p (a .flash) (heads-shown g ok t p _ _ at (fits t)) (flush-in g ok t p _ _ was (fits t)))
+
+    pub count-checks : checks a (count t) ≡ none
+    count-checks = checks-count a g (shows .geometry) opening t ∙ count-passes g t p below head-ok
 
     pub view-checks : (q n : ℕ) → q < g .pages → checks a (view t q n) ≡ refuseIf (not (eqb n 0) && not (isLive g (headOf p) n)) 17 none
     view-checks q n l =
@@ -75,7 +72,10 @@ module _ (a : Areas) (g : Geometry) (ps : ℕ → Part) (shows : Shows a g ps) (
 
   -- and of another
   pub flush-out : (t : ℕ) → partitions g ≤ t → checks a (flush t) ≡ some (unread 4)
-  flush-out t l = checks-flush a g (shows .geometry) opening t ∙ flush-4 g t _ l
+  flush-out t l = checks-flush a g (shows .geometry) opening t ∙ flush-4 g t _ (a .flash) l
+
+  pub count-out : (t : ℕ) → partitions g ≤ t → checks a (count t) ≡ some (unread 4)
+  count-out t l = checks-count a g (shows .geometry) opening t ∙ count-4 g t _ l
 
   pub view-out : (t q n : ℕ) → not (ltb t (partitions g)) || not (ltb q (g .pages)) ≡ true → checks a (view t q n) ≡ some (unread 4)
   view-out t q n e = checks-view a g (shows .geometry) opening t q n ∙ view-4 g t q n _ e
@@ -88,20 +88,32 @@ module _ (a : Areas) (g : Geometry) (ps : ℕ → Part) (shows : Shows a g ps) (
     below : t < partitions g
     below = partition-of-lt g (shows .ok) k hk
 
-    key-ok : keyOverfull g k (p t below) ≡ false
-    key-ok = fits-key g (p t below) k (head-ok t below) (at t below .buffer (pageOf g k) (page-of-lt g (shows .ok) k) .fits)
+    abbrev own : List ℕ
+    own = partition g t (a .memory)
+
+    key-ok : keyOverfull g k own ≡ false
+    key-ok = fits-key g own k (head-ok t below) (at t below .buffer (pageOf g k) (page-of-lt g (shows .ok) k) .fits)
 
     pub get-checks : checks a (get k) ≡ none
     get-checks = checks-get a g (shows .geometry) opening k ∙ get-passes g k _ key-ok
 
     -- the value is no position; or a flush is due, and no flush number is left
-    pub put-checks : (v : ℕ) → checks a (put k v)
-        ≡ refuseIf (noPosition v) 21 (refuseIf (dueIn g k (ps t) && eqb (flushesOf (partition g t (a .memory))) lastFlush) 16 none)
+    pub put-checks : (v : ℕ) → checks a (put k v) ≡ refuseIf (noPosition v) 21 (refuseIf (dueIn g k (ps t) && eqb (flushesOf own) lastFlush) 16 none)
     put-checks v =
-        checks-put a g (shows .geometry) opening k v ∙ put-last g k _ v key-ok (pages-ok t below) ∙ rw (due-shown g (shows .ok) t _ _ _ (at t below) k)
+        let ok = shows .ok in
+        let f : List ℕ = a .flash in
+        let is-due : due g k own ≡ dueIn g k (ps t) = due-shown g ok t own f (ps t) (at t below) k in
+        checks-put a g (shows .geometry) opening k v
+        ∙ either (noPosition v)
+        (λ no. put-21 g k own v f no ∙ rw no)
+        (λ yes. either (dueIn g k (ps t))
+        (λ d. put-due g k own v f yes key-ok (is-due ∙ d) (pages-ok t below)
+        ∙ due-last g t 1 own f (heads-shown g ok t own f (ps t) (at t below) (fits t)) (flushed-put-in g ok t own f (ps t) (was t below) (fits t) k v) ∙ rw (yes, d))
+        (λ d. put-undue g k own v f yes key-ok (is-due ∙ d) ∙ rw (put-in g ok t own f (ps t) (was t below) (fits t) k v d, yes, d)))
 
     -- the key must be listed, and no place is free
     pub del-checks : checks a (del k) ≡ refuseIf (mustList g k (ps t) && eqb (length (ps t .list)) (g .list)) 14 none
     del-checks =
-        checks-del a g (shows .geometry) opening k ∙ del-full g k _ key-ok
-        ∙ rw (must-list-shown g (shows .ok) t _ _ _ (at t below) (fits t .liveFlushed) k, list-count (at t below))
+        let ok = shows .ok in
+        checks-del a g (shows .geometry) opening k ∙ del-full g k own key-ok
+        ∙ rw (del-in g ok t own (a .flash) (ps t) (was t below) (fits t) k, must-list-shown g ok t own _ (ps t) (at t below) k (fits t .liveFlushed), list-count (at t below))

@@ -38,6 +38,7 @@ pub record PartOk (g : Geometry) (p : Part) : Type 0 where
   pub stamps : (j n : ℕ) → find j (p .list) ≡ some n → Live p n
   pub apart : (q : ℕ) → Distinct (p .buffer q)
   pub fits : (q : ℕ) → length (p .buffer q) ≤ capacity g
+  pub batchFits : (n q : ℕ) → length (p .batch n q) ≤ capacity g
 
 pub record Agree (g : Geometry) (ps : ℕ → Part) (known : ℕ → Option Known) (lives₀ : ℕ → ℕ) : Type 0 where
   pub parts : (t : ℕ) → PartOk g (ps t)
@@ -49,7 +50,7 @@ abbrev pub Core : (ℕ → Part) → History → Type 0
 Core ps h = Agree (h .geometry) ps (h .keys) (h .live)
 
 module _ (g : Geometry) where
-  flushed-pages : (p : Part) (q a : ℕ) → pagesAt (flushed g p) (suc a) q ≡ pagesAt p a q
+  pub flushed-pages : (p : Part) (q a : ℕ) → pagesAt (flushed g p) (suc a) q ≡ pagesAt p a q
   unfolding flushed
   flushed-pages p q zero = ap (λ (x : ℕ → List Entry). x q) (modify-at _ _ (p .batch) (suc (p .flushes) - 0) (omega arith))
   flushed-pages p q (suc a) =
@@ -88,6 +89,7 @@ module _ (g : Geometry) where
     stamps = flushed-stamps p ok;
     apart = λ q. tt;
     fits = λ q. omega arith;
+    batchFits = modify-all (λ n pages. (q : ℕ) → length (pages q) ≤ capacity g) (suc (p .flushes)) (λ old. p .buffer) (p .batch) (λ n e. ok .fits) (λ n e. ok .batchFits n);
   }
 
 pub core-flush : (h : History) (t : ℕ) (ps : ℕ → Part) → Core ps h → Core (modify t (flushed (h .geometry)) ps) (aged t h)

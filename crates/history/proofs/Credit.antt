@@ -1,51 +1,20 @@
 -- The counting of pages: each put pays Q, which its entry keeps while it is in the buffer; a put that flushes finds at least E entries there, and spends Q × E.
-use Prim.Native.Nat.{ℕ, zero, suc, _+_, _*_, _≤_, _<_}
+use Prim.Native.Nat.{ℕ, suc, _+_, _*_, _≤_, _<_}
 use mathlib.Core.Path.{_≡_, refl, _∙_, ap}
 use mathlib.Core.List.{List}
 use native.Mathlib.Omega.{arith}
 use native.Mathlib.Nat.{mul-le-mul-left}
-use native.Mathlib.Decide.{ℕ-discrete}
 use lib.ListN.{length}
 use Rattle.model.specs.declared.Geometry.{Geometry}
 use Rattle.model.specs.Search.{isSome}
 use Rattle.model.specs.Geometry.{partitions, capacity}
 use Rattle.model.specs.Keys.{pageOf}
+use Rattle.model.specs.Batch.{sum}
 use Rattle.model.proofs.Tests.{either}
+use Rattle.model.proofs.Sums.{sum-zero, sum-at, sum-change}
 use Rattle.model.proofs.Tables.{Entry, find, store, erase, length-store, length-erase}
 use Rattle.model.proofs.Partitions.{modify, modify-at, modify-off}
 use Rattle.history.proofs.Table.{Part, flushed, stored, deleted}
-
--- f 0 + … + f (n - 1)
-unfoldable pub sum : ℕ → (ℕ → ℕ) → ℕ
-sum zero f = 0
-sum (suc n) f = f n + sum n f
-
-pub sum-zero : (n : ℕ) → sum n (λ t. 0) ≡ 0
-unfolding sum
-sum-zero zero = refl
-sum-zero (suc n) = omega (arith, sum-zero n)
-
-pub sum-same : (n : ℕ) (f f′ : ℕ → ℕ) → ((u : ℕ) → u < n → f′ u ≡ f u) → sum n f′ ≡ sum n f
-unfolding sum
-sum-same zero f f′ h = refl
-sum-same (suc n) f f′ h = omega (arith, h n (omega arith), sum-same n f f′ (λ u l. h u (omega arith)))
-
-pub sum-at : (n : ℕ) (f : ℕ → ℕ) (t : ℕ) → t < n → f t ≤ sum n f
-unfolding sum
-sum-at zero f t l = absurd (omega arith)
-sum-at (suc n) f t l = elim (ℕ-discrete t n) [
-  | yes e ↦ rw e (omega arith)
-  | no e ↦ omega (arith, sum-at n f t (omega arith))
-]
-
--- a sum of which one part changed
-pub sum-change : (t n : ℕ) (f f′ : ℕ → ℕ) → t < n → ((u : ℕ) → (u ≡ t → ⊥) → f′ u ≡ f u) → sum n f′ + f t ≡ sum n f + f′ t
-unfolding sum
-sum-change t zero f f′ l h = absurd (omega arith)
-sum-change t (suc n) f f′ l h = elim (ℕ-discrete t n) [
-  | yes e ↦ omega (arith, ap f e, ap f′ e, sum-same n f f′ (λ u m. h u (omega arith)))
-  | no e ↦ omega (arith, h n (omega arith), sum-change t n f f′ (omega arith) h)
-]
 
 -- the entries in a partition's buffer
 abbrev pub entriesIn : Geometry → Part → ℕ
@@ -84,7 +53,7 @@ module _ (g : Geometry) (p : Part) where
 
   module _ (k : ℕ) (inside : pageOf g k < g .pages) where
     -- the key's buffer page changed by c
-    remade-entries : (c : List Entry → List Entry) → sum (g .pages) (λ q. length (modify (pageOf g k) c (p .buffer) q)) + length (p .buffer (pageOf g k))
+    pub remade-entries : (c : List Entry → List Entry) → sum (g .pages) (λ q. length (modify (pageOf g k) c (p .buffer) q)) + length (p .buffer (pageOf g k))
         ≡ entriesIn g p + length (c (p .buffer (pageOf g k)))
     remade-entries c =
         sum-change (pageOf g k) (g .pages) (λ q. length (p .buffer q)) (λ q. length (modify (pageOf g k) c (p .buffer) q)) inside

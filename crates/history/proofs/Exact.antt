@@ -16,7 +16,7 @@ use Rattle.model.specs.DeleteList.{stampAt}
 use Rattle.model.specs.Filter.{isSet, filterFor}
 use Rattle.model.specs.Partition.{partition, headOf, listedOf, listOf, slot, isLive, slotBits}
 use Rattle.model.specs.Answers.{Areas}
-use Rattle.model.specs.Get.{batchPage}
+use Rattle.model.specs.Batch.{batchPage}
 use Rattle.model.specs.Calls.{geometryIn, partitionIn}
 use Rattle.model.proofs.Tests.{either}
 use Rattle.model.proofs.Tables.{find, Distinct}

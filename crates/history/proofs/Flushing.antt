@@ -11,7 +11,7 @@ use Rattle.model.specs.Geometry.{allowed, partitions, flashNeed}
 use Rattle.model.specs.Filter.{isSet, filterFor}
 use Rattle.model.specs.Partition.{flushesOf, listedOf, listOf, bufferOf, slot, slotBits}
 use Rattle.model.specs.Flush.{flushed, withBatch}
-use Rattle.model.specs.Get.{batchPage}
+use Rattle.model.specs.Batch.{batchPage}
 use Rattle.model.proofs.Sizes.{sizes, slot-lt}
 use Rattle.model.proofs.Tables.{Entry, strike, hasBit}
 use Rattle.model.proofs.Passing.{bits-same}

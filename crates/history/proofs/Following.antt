@@ -11,7 +11,8 @@ use Rattle.model.specs.Page.{searched, expected}
 use Rattle.model.specs.DeleteList.{listedAt}
 use Rattle.model.specs.Partition.{headOf, flushesOf, listedOf, listOf, bufferOf, live, passingFrom, passing}
 use Rattle.model.specs.Answers.{Areas, Refusal, Answer, refused, buffer, batch}
-use Rattle.model.specs.Get.{batchPage, hitIn, readThrough, sought}
+use Rattle.model.specs.Batch.{batchPage}
+use Rattle.model.specs.Get.{hitIn, readThrough, sought}
 use Rattle.model.specs.Calls.{get, geometryIn, keyPartition, checks, reply}
 use Rattle.model.proofs.Tests.{either}
 use Rattle.model.proofs.Lookup.{read-none, read-batch, sought-listed, sought-unlisted}

@@ -13,6 +13,7 @@ use Rattle.model.specs.Search.{isSome}
 use Rattle.model.specs.Geometry.{partitions, capacity}
 use Rattle.model.specs.Keys.{partitionOf, pageOf}
 use Rattle.model.proofs.Tests.{numbers, either, both-true}
+use Rattle.model.proofs.Sums.{sum-zero, sum-same}
 use Rattle.model.proofs.Tables.{find, store, length-store}
 use Rattle.model.proofs.Partitions.{modify, modify-at}
 use Rattle.history.specs.History.{History, blank, aged, withKey, counted}
@@ -20,7 +21,7 @@ use Rattle.history.proofs.Table.{Part, Live, empty, due, mustList, flus
 use Rattle.history.proofs.Told.{absent}
 use Rattle.history.proofs.Core.{seen, KeyOk, PartOk, Core, core-flush, core-touch}
 use Rattle.history.proofs.Changes.{stored-touch, deleted-touch}
-use Rattle.history.proofs.Credit.{sum-zero, sum-same, entriesIn, Credit, credit-change, flushed-entries, stored-entries, deleted-entries, page-entries}
+use Rattle.history.proofs.Credit.{entriesIn, Credit, credit-change, flushed-entries, stored-entries, deleted-entries, page-entries}
 
 -- what an allowed geometry gives
 pub record Fine (g : Geometry) : Type 0 where
@@ -45,7 +46,7 @@ pub good-blank : (g : Geometry) → Fine g → Good (λ t. empty) (blank g)
 good-blank g fine = record {
   fine = fine;
   core = record {
-    parts = λ t. record { liveKept = omega arith; liveFlushed = omega arith; once = tt; listFits = omega arith; stamps = none-listed; apart = λ q. tt; fits = λ q. omega arith };
+    parts = λ t. record { liveKept = omega arith; liveFlushed = omega arith; once = tt; listFits = omega arith; stamps = none-listed; apart = λ q. tt; fits = λ q. omega arith; batchFits = λ n q. omega arith };
     keys = empty-key g;
     lives = λ t. refl;
   };

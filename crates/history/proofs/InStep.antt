@@ -1,36 +1,37 @@
--- Areas and a history in step: there is a table that both areas show, and what the history holds is true of it. A format and a flush keep them so.
-use Prim.Native.Nat.{ℕ, _<_}
+-- Areas and a history in step: there is a table that both areas show, whose entries the heads count, and what the history holds is true of it. A format and a flush keep them so.
+use Prim.Native.Nat.{ℕ, _+_, _^_, _<_}
 use mathlib.Core.Bool.{true, false}
-use mathlib.Core.Path.{_≡_, sym, _∙_}
+use mathlib.Core.Path.{_≡_, refl, sym, _∙_}
 use mathlib.Core.List.{List}
 use mathlib.Core.Option.{none}
 use native.Mathlib.Omega.{arith}
 use lib.Dec.{eqb}
 use Rattle.model.specs.declared.Geometry.{Geometry}
 use Rattle.model.specs.Geometry.{allowed, partitions}
-use Rattle.model.specs.Partition.{partition, flushesOf}
+use Rattle.model.specs.Partition.{partition, totalOf, flushesOf}
 use Rattle.model.specs.Answers.{Areas}
 use Rattle.model.specs.Refusals.{lastFlush}
-use Rattle.model.specs.Flush.{flushed, withBatch}
+use Rattle.model.specs.Flush.{flushIn, withBatch}
 use Rattle.model.specs.Calls.{format, flush, checks, effect}
 use Rattle.model.proofs.Sizes.{sizes, page-of-lt}
 use Rattle.model.proofs.Lengths.{length-withBatch}
 use Rattle.model.proofs.Tests.{numbers}
 use Rattle.model.proofs.Partitions.{modify}
 use Rattle.model.proofs.PartitionsFlash.{batch-out}
-use Rattle.model.proofs.Checks.{format-accepted, flush-accepted}
+use Rattle.model.proofs.Checks.{format-accepted, flush-accepted, due-accepted}
 use Rattle.model.proofs.Calls.{checks-format, checks-flush, changedAt, effect-format, effect-flush}
 use Rattle.history.specs.History.{History, blank, aged}
 use Rattle.history.proofs.Table.{Part, empty, flushed as flushedPart}
+use Rattle.history.proofs.Totals.{entriesAll}
 use Rattle.history.proofs.Good.{Fine, Good, good-blank, good-flush}
-use Rattle.history.proofs.Shows.{ShowsPart}
-use Rattle.history.proofs.Flushing.{shows-flushed}
-use Rattle.history.proofs.Areas.{Shows, shows-opens, shows-changed}
-use Rattle.history.proofs.Formatting.{shows-formatted}
+use Rattle.history.proofs.Ends.{Counted, flush-counted}
+use Rattle.history.proofs.Areas.{Shows, AllCounted, shows-opens, each-changed, shows-changed}
+use Rattle.history.proofs.Formatting.{shows-formatted, counted-formatted}
 
 pub record InStep (a : Areas) (h : History) : Type 0 where
   pub table : ℕ → Part
   pub shows : Shows a (h .geometry) table
+  pub counted : AllCounted a (h .geometry) table
   pub good : Good table h
 
 fine-of : (g : Geometry) → allowed g ≡ true → Fine g
@@ -42,6 +43,7 @@ format-keeps a g e =
     rw (effect-format a g) (record {
       table = λ t. empty;
       shows = shows-formatted g (passed .0) a (passed .1) (passed .2);
+      counted = counted-formatted g (passed .0) a (passed .1);
       good = good-blank g (fine-of g (passed .0));
     })
 
@@ -53,27 +55,42 @@ module _ (a : Areas) (h : History) (inv : InStep a h) where
   abbrev g : Geometry
   g = h .geometry
 
-  -- a flush for which a number is left
-  module _ (t : ℕ) (below : t < partitions g) (more : eqb (flushesOf (partition g t (a .memory))) lastFlush ≡ false) where
-    pub flushed-shown : ShowsPart g t (flushed g t (partition g t (a .memory))) (batchWritten a g t) (flushedPart g (inv .table t))
-    flushed-shown =
-        let at = inv .shows .part t below in
-        shows-flushed g (inv .shows .ok) t below _ _ _ at (inv .good .core .parts t .listFits) (inv .shows .flashFits) (omega (numbers, at .words .flushes))
+  module _ (t : ℕ) (below : t < partitions g) where
+    pub counted-at : Counted g t (partition g t (a .memory)) (a .flash) (inv .table t)
+    counted-at = record { shown = inv .shows .part t below; total = inv .counted t below }
 
-    -- partition t changed, and its batch written
-    pub changed-shown : (c : List ℕ → List ℕ) (c′ : Part → Part) → ShowsPart g t (c (partition g t (a .memory))) (batchWritten a g t) (c′ (inv .table t))
-        → Shows (changedAt a g (inv .shows .geometry) t c (batchWritten a g t)) g (modify t c′ (inv .table))
-    changed-shown c c′ now =
-        shows-changed a g (inv .table) (inv .shows) t below c c′ (batchWritten a g t) (length-withBatch g t _ (g .pages) (a .flash))
-        (λ u j q other lu lj lq. batch-out g (inv .shows .ok) t below _ (a .flash) (inv .shows .flashFits) (g .pages) u j q (omega arith) lu lj lq (λ e f. other e)) now
+    -- a flush number that is left
+    pub next-number : eqb (flushesOf (partition g t (a .memory))) lastFlush ≡ false → flushesOf (partition g t (a .memory)) + 1 < 2 ^ 32
+    next-number e = omega (numbers, inv .shows .part t below .words .flushes)
+
+    -- partition t changed, and flash as it was or with its batch written
+    module _ (c : List ℕ → List ℕ) (c′ : Part → Part) where
+      pub changed-counted : (flash : List ℕ) → Counted g t (c (partition g t (a .memory))) flash (c′ (inv .table t))
+          → AllCounted (changedAt a g (inv .shows .geometry) t c flash) g (modify t c′ (inv .table))
+      changed-counted flash now =
+          each-changed a g (inv .table) (inv .shows) t below c c′ flash (λ u p s. totalOf p ≡ entriesAll g s) (now .shown .long) (now .total) (λ u e. inv .counted u)
+
+      pub kept-shown : Counted g t (c (partition g t (a .memory))) (a .flash) (c′ (inv .table t))
+          → Shows (changedAt a g (inv .shows .geometry) t c (a .flash)) g (modify t c′ (inv .table))
+      kept-shown now = shows-changed a g (inv .table) (inv .shows) t below c c′ (a .flash) refl (λ u j q other lu lj lq. refl) (now .shown)
+
+      pub written-shown : Counted g t (c (partition g t (a .memory))) (batchWritten a g t) (c′ (inv .table t))
+          → Shows (changedAt a g (inv .shows .geometry) t c (batchWritten a g t)) g (modify t c′ (inv .table))
+      written-shown now =
+          shows-changed a g (inv .table) (inv .shows) t below c c′ (batchWritten a g t) (length-withBatch g t _ (g .pages) (a .flash))
+          (λ u j q other lu lj lq. batch-out g (inv .shows .ok) t below _ (a .flash) (inv .shows .flashFits) (g .pages) u j q (omega arith) lu lj lq (λ e f. other e)) (now .shown)
 
   pub flush-keeps : (t : ℕ) → checks a (flush t) ≡ none → InStep (effect a (flush t)) (aged t h)
   flush-keeps t e =
       let own = inv .shows .geometry in
-      let passed = flush-accepted g t _ (sym (checks-flush a g own (shows-opens a g (inv .table) (inv .shows)) t) ∙ e) in
-      let more = passed .4 in
+      let p : List ℕ = partition g t (a .memory) in
+      let passed = flush-accepted g t p (a .flash) (sym (checks-flush a g own (shows-opens a g (inv .table) (inv .shows)) t) ∙ e) in
+      let below = passed .0 in
+      let more = next-number t below (due-accepted g t 0 p (a .flash) (passed .4) .0) in
+      let now = flush-counted g (inv .shows .ok) t p (a .flash) (inv .table t) (counted-at t below) (inv .good .core .parts t) below (inv .shows .flashFits) more in
       rw (effect-flush a g own t) (record {
         table = modify t (flushedPart g) (inv .table);
-        shows = changed-shown t (passed .0) more (flushed g t) (flushedPart g) (flushed-shown t (passed .0) more);
-        good = good-flush (inv .table) h (inv .good) t (passed .0);
+        shows = written-shown t below (flushIn g t (a .flash)) (flushedPart g) now;
+        counted = changed-counted t below (flushIn g t (a .flash)) (flushedPart g) _ now;
+        good = good-flush (inv .table) h (inv .good) t below;
       })

@@ -2,7 +2,6 @@
 use Prim.Native.Nat.{ℕ, _^_, _<_}
 use mathlib.Core.Bool.{Bool, true, false, cond, _&&_}
 use mathlib.Core.Path.{_≡_, refl, sym, _∙_}
-use mathlib.Core.List.{List}
 use mathlib.Core.Option.{none}
 use native.Mathlib.Omega.{arith}
 use lib.Dec.{eqb}
@@ -19,20 +18,18 @@ use Rattle.model.specs.Del.{deleted}
 use Rattle.model.specs.Calls.{del, put, checks, result, effect}
 use Rattle.model.proofs.Sizes.{partition-of-lt}
 use Rattle.model.proofs.Partitions.{modify}
-use Rattle.model.proofs.PartitionsCalls.{put-kept, put-flushed}
 use Rattle.model.proofs.Checks.{refuse-none}
-use Rattle.model.proofs.Calls.{changedAt, result-put, effect-put, effect-del}
+use Rattle.model.proofs.Calls.{result-put, effect-put, effect-del}
 use Rattle.model.proofs.Tests.{numbers}
 use Rattle.history.specs.History.{History, withKey, putting, note}
 use Rattle.history.proofs.Modify.{modify-twice}
 use Rattle.history.proofs.Table.{Part, mustList, due as dueIn, flushed as flushedPart, stored as storedPart, deleted as deletedPart}
-use Rattle.history.proofs.Core.{flushed-ok}
-use Rattle.history.proofs.Good.{good-del, good-put, room-free, room-flushed}
-use Rattle.history.proofs.Shows.{ShowsPart}
-use Rattle.history.proofs.Storing.{shows-put, shows-deleted}
-use Rattle.history.proofs.Areas.{Shows, shows-changed}
-use Rattle.history.proofs.Checking.{put-checks, del-checks, due-shown}
-use Rattle.history.proofs.InStep.{InStep, batchWritten, flushed-shown, changed-shown}
+use Rattle.history.proofs.Core.{PartOk}
+use Rattle.history.proofs.Good.{good-del, good-put}
+use Rattle.history.proofs.Totalling.{due-shown}
+use Rattle.history.proofs.Ends.{Counted, put-counted, flushed-put-counted, del-counted}
+use Rattle.history.proofs.Checking.{put-checks, del-checks}
+use Rattle.history.proofs.InStep.{InStep, counted-at, next-number, changed-counted, kept-shown, written-shown}
 
 module _ (a : Areas) (h : History) (inv : InStep a h) (k : ℕ) (hk : k < 2 ^ 64) where
   abbrev g : Geometry
@@ -47,49 +44,38 @@ module _ (a : Areas) (h : History) (inv : InStep a h) (k : ℕ) (hk : k < 2 ^ 64
   below : t < partitions g
   below = partition-of-lt g (inv .shows .ok) k hk
 
-  at : ShowsPart g t (partition g t (a .memory)) (a .flash) s
-  at = inv .shows .part t below
+  was : Counted g t (partition g t (a .memory)) (a .flash) s
+  was = counted-at a h inv t below
 
-  -- the key's partition changed, and flash as it was
-  kept-shown : (c : List ℕ → List ℕ) (c′ : Part → Part) → ShowsPart g t (c (partition g t (a .memory))) (a .flash) (c′ s)
-      → Shows (changedAt a g (inv .shows .geometry) t c (a .flash)) g (modify t c′ (inv .table))
-  kept-shown c c′ now = shows-changed a g (inv .table) (inv .shows) t below c c′ (a .flash) refl (λ u j q other lu lj lq. refl) now
+  part : PartOk g s
+  part = inv .good .core .parts t
 
   free-place : checks a (del k) ≡ none → mustList g k s ≡ true → length (s .list) < g .list
   free-place e must =
-      let free = refuse-none (mustList g k s && eqb (length (s .list)) (g .list)) 14 none (sym (del-checks a g (inv .table) (inv .shows) (inv .good .core .parts) k hk) ∙ e) .0 in
+      let free = refuse-none (mustList g k s && eqb (length (s .list)) (g .list)) 14 none (sym (del-checks a g (inv .table) (inv .shows) (inv .counted) (inv .good .core .parts) k hk) ∙ e) .0 in
       let less : eqb (length (s .list)) (g .list) ≡ false = simp must at free in
       omega (numbers, inv .good .core .parts t .listFits)
 
   pub del-keeps : checks a (del k) ≡ none → InStep (effect a (del k)) (withKey k none h)
-  del-keeps e = rw (effect-del a g (inv .shows .geometry) k) (record {
-    table = modify t (deletedPart g k) (inv .table);
-    shows = kept-shown (deleted g k) (deletedPart g k) (shows-deleted g (inv .shows .ok) t _ _ s at (inv .good .core .parts t) k hk (free-place e));
-    good = good-del (inv .table) h (inv .good) k below (free-place e);
-  })
+  del-keeps e =
+      let now = del-counted g (inv .shows .ok) t _ _ s was part k hk (free-place e) in
+      rw (effect-del a g (inv .shows .geometry) k) (record {
+        table = modify t (deletedPart g k) (inv .table);
+        shows = kept-shown a h inv t below (deleted g k) (deletedPart g k) now;
+        counted = changed-counted a h inv t below (deleted g k) (deletedPart g k) _ now;
+        good = good-del (inv .table) h (inv .good) k below (free-place e);
+      })
 
   module _ (v : ℕ) (hv : v < 2 ^ 64) where
     is-due : due g k (partition g t (a .memory)) ≡ dueIn g k s
-    is-due = due-shown g (inv .shows .ok) t _ _ s at k
+    is-due = due-shown g (inv .shows .ok) t _ _ s (was .shown) k
 
     pub put-result : result a (put k v) ≡ done (cond (dueIn g k s) (g .pages) 0)
     put-result = result-put a g (inv .shows .geometry) k v (dueIn g k s) is-due
 
-    put-free : dueIn g k s ≡ false → ShowsPart g t (putIn g k v (partition g t (a .memory))) (a .flash) (storedPart g k v s)
-    put-free e =
-        rw (put-kept g k _ v (is-due ∙ e))
-        (shows-put g (inv .shows .ok) t _ _ s at (inv .good .core .parts t) k hk v hv (room-free g k s v (inv .good .core .parts t) e))
-
-    put-due : dueIn g k s ≡ true → eqb (flushesOf (partition g t (a .memory))) lastFlush ≡ false
-        → ShowsPart g t (putIn g k v (partition g t (a .memory))) (batchWritten a g t) (storedPart g k v (flushedPart g s))
-    put-due e more =
-        rw (put-flushed g k _ v (is-due ∙ e))
-        (shows-put g (inv .shows .ok) t _ _ (flushedPart g s) (flushed-shown a h inv t below more) (flushed-ok g s (inv .good .core .parts t)) k hk v hv
-        (room-flushed g k s v (inv .good .fine .someEntry)))
-
     number-left : checks a (put k v) ≡ none → dueIn g k s ≡ true → eqb (flushesOf (partition g t (a .memory))) lastFlush ≡ false
     number-left e d =
-        let later = refuse-none (noPosition v) 21 _ (sym (put-checks a g (inv .table) (inv .shows) (inv .good .core .parts) k hk v) ∙ e) .1 in
+        let later = refuse-none (noPosition v) 21 _ (sym (put-checks a g (inv .table) (inv .shows) (inv .counted) (inv .good .core .parts) k hk v) ∙ e) .1 in
         let free = refuse-none (dueIn g k s && eqb (flushesOf (partition g t (a .memory))) lastFlush) 16 none later .0 in
         simp d at free
 
@@ -98,14 +84,20 @@ module _ (a : Areas) (h : History) (inv : InStep a h) (k : ℕ) (hk : k < 2 ^ 64
     put-keeps e = go (dueIn g k s) refl
       where
         go : (b : Bool) → dueIn g k s ≡ b → InStep (effect a (put k v)) (note h (putting k v (cond b (g .pages) 0)))
-        go false d = rw (effect-put a g (inv .shows .geometry) k v false (is-due ∙ d)) (record {
-          table = modify t (storedPart g k v) (inv .table);
-          shows = kept-shown (putIn g k v) (storedPart g k v) (put-free d);
-          good = good-put (inv .table) h (inv .good) k v below false d;
-        })
-        go true d = rw (effect-put a g (inv .shows .geometry) k v true (is-due ∙ d), ne-eqb (g .pages) 0 (omega (arith, inv .good .fine .somePage))) (record {
-          table = modify t (storedPart g k v) (modify t (flushedPart g) (inv .table));
-          shows = rw (modify-twice t (storedPart g k v) (flushedPart g) (inv .table))
-              (changed-shown a h inv t below (number-left e d) (putIn g k v) (λ x. storedPart g k v (flushedPart g x)) (put-due d (number-left e d)));
-          good = good-put (inv .table) h (inv .good) k v below true d;
-        })
+        go false d =
+            let now = put-counted g (inv .shows .ok) t _ _ s was part k v d hk hv in
+            rw (effect-put a g (inv .shows .geometry) k v false (is-due ∙ d)) (record {
+              table = modify t (storedPart g k v) (inv .table);
+              shows = kept-shown a h inv t below (putIn g k v (a .flash)) (storedPart g k v) now;
+              counted = changed-counted a h inv t below (putIn g k v (a .flash)) (storedPart g k v) _ now;
+              good = good-put (inv .table) h (inv .good) k v below false d;
+            })
+        go true d =
+            let both : Part → Part = λ x. storedPart g k v (flushedPart g x) in
+            let now = flushed-put-counted g (inv .shows .ok) t _ _ s was part k v hk hv d refl below (inv .shows .flashFits) (next-number a h inv t below (number-left e d)) in
+            rw (effect-put a g (inv .shows .geometry) k v true (is-due ∙ d), ne-eqb (g .pages) 0 (omega (arith, inv .good .fine .somePage))) (record {
+              table = modify t (storedPart g k v) (modify t (flushedPart g) (inv .table));
+              shows = rw (modify-twice t (storedPart g k v) (flushedPart g) (inv .table)) (written-shown a h inv t below (putIn g k v (a .flash)) both now);
+              counted = rw (modify-twice t (storedPart g k v) (flushedPart g) (inv .table)) (changed-counted a h inv t below (putIn g k v (a .flash)) both _ now);
+              good = good-put (inv .table) h (inv .good) k v below true d;
+            })

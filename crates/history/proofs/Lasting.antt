@@ -8,7 +8,7 @@ use Rattle.model.specs.DeleteList.{stampAt}
 use Rattle.model.specs.Filter.{isSet, filterFor}
 use Rattle.model.specs.Partition.{headOf, listedOf, listOf, slot, isLive, slotBits}
 use Rattle.model.specs.Answers.{Areas}
-use Rattle.model.specs.Get.{batchPage}
+use Rattle.model.specs.Batch.{batchPage}
 use Rattle.model.specs.Calls.{Call, format, geometryIn, partitionIn, reply, run}
 use Rattle.history.specs.History.{History, events, remember}
 use Rattle.history.specs.Claim.{Fits, FromFormat}
@@ -27,7 +27,7 @@ pub record Lasting (a : Areas) (h : History) : Type 0 where
   -- every stamp is a live batch
   pub stamps : (t i : ℕ) → t < partitions (geometryIn a) → i < listedOf (partitionIn a t)
       → isLive (geometryIn a) (headOf (partitionIn a t)) (stampAt (listOf (geometryIn a) (partitionIn a t)) i) ≡ true
-  -- but for a format, refusals 2, 3, 11, 12 and 13 do not come up
+  -- but for a format, refusals 2, 3, 11, 12 and 13 do not come up, nor do the 12 that comes last and the 13 for a head that a put or a flush reads
   pub refusals : (c : Call) → Fits c → Among (possible c) (reply a c)
 
 lasts : (a : Areas) (h : History) → InStep a h → Lasting a h

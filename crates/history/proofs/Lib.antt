@@ -7,13 +7,16 @@ pub mod Core
 pub mod Walk
 pub mod Changes
 pub mod Credit
+pub mod Totals
 pub mod Good
 pub mod Get
 pub mod Pages
 pub mod Shows
+pub mod Totalling
 pub mod Flushing
 pub mod Passing
 pub mod Storing
+pub mod Ends
 pub mod Areas
 pub mod Formatting
 pub mod Reading
@@ -23,6 +26,7 @@ pub mod InStep
 pub mod Keyed
 pub mod Step
 pub mod Demand
+pub mod Counting
 pub mod Counts
 pub mod Exact
 pub mod Refusing

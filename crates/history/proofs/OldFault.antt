@@ -8,7 +8,7 @@ use Rattle.model.specs.Geometry.{G}
 use Rattle.model.specs.Page.{searched}
 use Rattle.model.specs.Partition.{passing}
 use Rattle.model.specs.Answers.{Areas, tally, batch, done, found, absent, refused}
-use Rattle.model.specs.Get.{batchPage}
+use Rattle.model.specs.Batch.{batchPage}
 use Rattle.model.specs.Calls.{Call, format, put, get, del, flush, partitionIn, run, replies}
 use Rattle.model.proofs.Computing.{computing}
 

@@ -7,7 +7,7 @@ use native.Mathlib.Omega.{arith}
 use lib.Dec.{eqb, ltb}
 use Rattle.model.specs.Keys.{partitionOf}
 use Rattle.model.specs.Answers.{Areas, Refusal, Answer, done, found, absent, shown, refused}
-use Rattle.model.specs.Calls.{Call, format, put, get, del, flush, view, checks, reply}
+use Rattle.model.specs.Calls.{Call, format, put, get, del, flush, view, count, checks, reply}
 use Rattle.model.proofs.Calls.{put-not-0, reply-refused}
 use Rattle.history.specs.History.{Known, History, older, aged, accepted, heard, note}
 use Rattle.history.specs.Claim.{isRefused, valueOf, FromFormat}
@@ -45,6 +45,7 @@ accepted-nonzero h (get j) n other p k = p k
 accepted-nonzero h (del j) n other p k = cond-nonzero (eqb k j) none (h .keys k) tt (p k)
 accepted-nonzero h (flush t) n other p k = aged-nonzero t h p k
 accepted-nonzero h (view t q m) n other p k = p k
+accepted-nonzero h (count t) n other p k = p k
 
 heard-nonzero : (h : History) (c : Call) (x : Answer) → (isRefused x ≡ false → (k : ℕ) → c ≡ put k 0 → ⊥) → NoZeros h → NoZeros (note h (heard c x))
 unfolding note

@@ -12,7 +12,8 @@ use Rattle.model.specs.Page.{searched, expected}
 use Rattle.model.specs.DeleteList.{listedAt}
 use Rattle.model.specs.Partition.{listedOf, listOf, bufferOf, passing}
 use Rattle.model.specs.Answers.{Answer, buffer, batch}
-use Rattle.model.specs.Get.{batchPage, hitIn, readThrough, sought}
+use Rattle.model.specs.Batch.{batchPage}
+use Rattle.model.specs.Get.{hitIn, readThrough, sought}
 use Rattle.model.proofs.Sizes.{page-of-lt}
 use Rattle.model.proofs.Tables.{find}
 use Rattle.model.proofs.Entries.{heldAt}

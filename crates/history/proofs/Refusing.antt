@@ -1,4 +1,5 @@
 -- While areas and history are in step, a call is refused for its arguments or for what the table holds, and for nothing else: 2, 3, 11, 12 and 13 do not come up.
+-- That is so of the 12 that comes last too, which judges the total at the call's end, and of the 13 for a head that a put or a flush reads.
 use Prim.Native.Nat.{ℕ, _<_}
 use mathlib.Core.Bool.{Bool, true, false, false≢true, not, _&&_, _||_}
 use mathlib.Core.Path.{_≡_, refl, sym}
@@ -19,17 +20,17 @@ use Rattle.model.specs.Flush.{inUse}
 use Rattle.model.specs.Put.{noPosition}
 use Rattle.model.specs.Format.{formatChecks}
 use Rattle.model.specs.View.{viewed}
-use Rattle.model.specs.Calls.{Call, format, put, get, del, flush, view, checks, result, reply}
+use Rattle.model.specs.Calls.{Call, format, put, get, del, flush, view, count, checks, result, reply}
 use Rattle.model.proofs.Tests.{either, both-true}
 use Rattle.model.proofs.Tables.{any}
 use Rattle.model.proofs.Checks.{refuse-none, format-1, format-2, format-3, format-passes}
-use Rattle.model.proofs.Calls.{checks-format, result-format, result-put, result-del, result-flush, result-view, reply-refused, reply-accepted, viewed-page}
+use Rattle.model.proofs.Calls.{checks-format, result-format, result-put, result-del, result-flush, result-view, result-count, reply-refused, reply-accepted, viewed-page}
 use Rattle.history.specs.History.{History}
 use Rattle.history.specs.Claim.{Fits, said}
 use Rattle.history.proofs.Table.{Part, due, mustList}
 use Rattle.history.proofs.Pages.{page-expected}
 use Rattle.history.proofs.Shows.{live-by-table}
-use Rattle.history.proofs.Checking.{put-checks, del-checks, flush-out, flush-checks, view-out, view-checks}
+use Rattle.history.proofs.Checking.{put-checks, del-checks, flush-out, flush-checks, view-out, view-checks, count-out, count-checks}
 use Rattle.history.proofs.InStep.{InStep}
 use Rattle.history.proofs.Demand.{says}
 
@@ -41,6 +42,7 @@ possible (get k) = []
 possible (del k) = 14 ∷ []
 possible (flush t) = 4 ∷ 15 ∷ 16 ∷ []
 possible (view t q n) = 4 ∷ 17 ∷ []
+possible (count t) = 4 ∷ []
 
 -- a refusal of these, with no reads
 abbrev pub Among : List ℕ → Answer → Type 0
@@ -108,31 +110,35 @@ module _ (a : Areas) (h : History) (inv : InStep a h) where
   refusals-possible (put k v) fits =
       let ns : List ℕ = 21 ∷ 16 ∷ [] in
       let last = due g k (of k) && eqb (flushesOf (p (partitionOf g k))) lastFlush in
-      among a (put k v) ns _ (put-checks a g (inv .table) (inv .shows) (inv .good .core .parts) k (fits .0) v)
+      among a (put k v) ns _ (put-checks a g (inv .table) (inv .shows) (inv .counted) (inv .good .core .parts) k (fits .0) v)
       (give-if ns (noPosition v) 21 (refuseIf last 16 none) refl (give-if ns last 16 none refl tt)) (λ e. rw (result-put a _ refl k v _ refl) tt)
   refusals-possible (get k) fits = accepted (reply a (get k)) _ (says a h inv k fits)
-  refusals-possible (del k) fits = among a (del k) _ _ (del-checks a g (inv .table) (inv .shows) (inv .good .core .parts) k fits)
+  refusals-possible (del k) fits = among a (del k) _ _ (del-checks a g (inv .table) (inv .shows) (inv .counted) (inv .good .core .parts) k fits)
       (give-if (14 ∷ []) (mustList g k (of k) && eqb (length (of k .list)) (g .list)) 14 none refl tt) (λ e. rw (result-del a k) tt)
   refusals-possible (flush t) fits = either (ltb t (partitions g))
       (λ l.
       let ns : List ℕ = 4 ∷ 15 ∷ 16 ∷ [] in
       let last = eqb (flushesOf (p t)) lastFlush in
-      among a (flush t) ns _ (flush-checks a g (inv .table) (inv .shows) (inv .good .core .parts) t (ltb-true t (partitions g) l))
+      among a (flush t) ns _ (flush-checks a g (inv .table) (inv .shows) (inv .counted) (inv .good .core .parts) t (ltb-true t (partitions g) l))
       (give-if ns (not (inUse g (p t))) 15 (refuseIf last 16 none) refl (give-if ns last 16 none refl tt)) (λ e. rw (result-flush a _ refl t) tt))
-      (λ l. rw (reply-refused a (flush t) (unread 4) (flush-out a g (inv .table) (inv .shows) (inv .good .core .parts) t (ltb-false t (partitions g) l))) (refl, refl))
+      (λ l. rw (reply-refused a (flush t) (unread 4) (flush-out a g (inv .table) (inv .shows) (inv .counted) (inv .good .core .parts) t (ltb-false t (partitions g) l))) (refl, refl))
   refusals-possible (view t q n) fits = either (ltb t (partitions g) && ltb q (g .pages))
       (λ e.
       let both = both-true (ltb t (partitions g)) (ltb q (g .pages)) e in
       let below = ltb-true t (partitions g) (both .0) in
       let page = ltb-true q (g .pages) (both .1) in
       let dead = not (eqb n 0) && not (isLive g (headOf (p t)) n) in
-      among a (view t q n) _ _ (view-checks a g (inv .table) (inv .shows) (inv .good .core .parts) t below q n page)
+      among a (view t q n) _ _ (view-checks a g (inv .table) (inv .shows) (inv .counted) (inv .good .core .parts) t below q n page)
       (give-if (4 ∷ 17 ∷ []) dead 17 none refl tt)
       (λ x. rw (result-view a g (inv .shows .geometry) t q n) (page-shown t q n below page (refuse-none dead 17 none x .0))))
       (λ e. rw (reply-refused a (view t q n) (unread 4)
-      (view-out a g (inv .table) (inv .shows) (inv .good .core .parts) t q n (outside (ltb t (partitions g)) (ltb q (g .pages)) e))) (refl, refl))
+      (view-out a g (inv .table) (inv .shows) (inv .counted) (inv .good .core .parts) t q n (outside (ltb t (partitions g)) (ltb q (g .pages)) e))) (refl, refl))
     where
       outside : (x y : Bool) → x && y ≡ false → not x || not y ≡ true
       outside true true e = absurd (false≢true (sym e))
       outside true false e = refl
       outside false y e = refl
+  refusals-possible (count t) fits = either (ltb t (partitions g))
+      (λ l. among a (count t) _ _ (count-checks a g (inv .table) (inv .shows) (inv .counted) (inv .good .core .parts) t (ltb-true t (partitions g) l)) tt
+      (λ e. rw (result-count a _ refl t) tt))
+      (λ l. rw (reply-refused a (count t) (unread 4) (count-out a g (inv .table) (inv .shows) (inv .counted) (inv .good .core .parts) t (ltb-false t (partitions g) l))) (refl, refl))

@@ -1,4 +1,4 @@
--- The history of a few lists of calls, computed.
+-- The history of a few lists of calls, and the count after them, computed.
 use Prim.Native.Nat.{ℕ, _^_}
 use mathlib.Core.Path.{_≡_, refl}
 use mathlib.Core.List.{List, [], _∷_}
@@ -6,8 +6,8 @@ use mathlib.Core.Option.{Option, none, some}
 use Rattle.model.specs.declared.Geometry.{Geometry}
 use Rattle.model.specs.Bytes.{zeros}
 use Rattle.model.specs.Geometry.{geometry}
-use Rattle.model.specs.Answers.{Areas}
-use Rattle.model.specs.Calls.{Call, format, put, del, flush}
+use Rattle.model.specs.Answers.{Areas, Answer, done}
+use Rattle.model.specs.Calls.{Call, format, put, del, flush, count, reply, run}
 use Rattle.model.proofs.Computing.{computing}
 use Rattle.history.specs.History.{Known, History, blank, older, note, remember, events}
 
@@ -49,3 +49,15 @@ pub samples :
     × (history 1 (put (2 ^ 63) 5 ∷ put 1 10 ∷ flush 0 ∷ []) .keys (2 ^ 63) ≡ known 5 0)
 unfolding computing older note remember events
 samples = (refl, refl, refl, refl, refl, refl, refl, refl, refl)
+
+abbrev counted : List Call → Answer
+counted cs = reply (run start (format (with 0) ∷ cs)) (count 0)
+
+-- A put adds an entry unless its key is in the buffer, also the put that flushes; a del takes out the one in the buffer; the batch that a third flush pushes out takes its two along.
+pub counts :
+    (counted twoFlushes ≡ done 3)
+    × (counted threeFlushes ≡ done 2)
+    × (counted fourPuts ≡ done 4)
+    × (counted (put 1 10 ∷ put 1 11 ∷ put 2 20 ∷ del 1 ∷ []) ≡ done 1)
+unfolding computing
+counts = (refl, refl, refl, refl)

@@ -12,7 +12,7 @@ use Rattle.model.specs.Search.{isSome}
 use Rattle.model.specs.Geometry.{allowed, stride}
 use Rattle.model.specs.DeleteList.{listedAt}
 use Rattle.model.specs.Partition.{Head, headOf, flushesOf, listedOf, listOf, bufferOf, slot, live as liveIn, isLive, slotBits}
-use Rattle.model.specs.Get.{batchPage}
+use Rattle.model.specs.Batch.{batchPage}
 use Rattle.model.proofs.Sizes.{slot-lt}
 use Rattle.model.proofs.Tables.{Entry, find, hasBit}
 use Rattle.model.proofs.Entries.{heldAt, length-entriesFrom}

@@ -1,5 +1,5 @@
--- A put without its flush, and a del, on bytes that show a partition show the changed partition.
-use Prim.Native.Nat.{ℕ, suc, _+_, _-_, _^_, _≤_, _<_}
+-- A put without its flush, and a del, on bytes that show a partition show the changed partition, whatever the total.
+use Prim.Native.Nat.{ℕ, suc, _^_, _≤_, _<_}
 use mathlib.Core.Bool.{true, false}
 use mathlib.Core.Path.{_≡_, refl, _∙_, ap}
 use mathlib.Core.List.{List, [], _∷_, _++_}
@@ -15,20 +15,19 @@ use Rattle.model.specs.Page.{stored, without}
 use Rattle.model.specs.DeleteList.{listedAt, struck, enlisted}
 use Rattle.model.specs.Partition.{Head, headOf, listedHead, unlistedHead, listedOf, listOf, bufferOf, slotBits, live as liveIn}
 use Rattle.model.specs.Put.{unlisted, buffered}
-use Rattle.model.specs.Del.{youngest, unbuffered, listedWith, deleted}
+use Rattle.model.specs.Del.{youngest, stampFor, unbuffered, listedWith}
 use Rattle.model.proofs.Sizes.{sizes, page-of-lt}
-use Rattle.model.proofs.Tests.{either}
 use Rattle.model.proofs.Tables.{Entry, find, store, erase, erase-none}
 use Rattle.model.proofs.Entries.{heldAt}
 use Rattle.model.proofs.ListEntries.{listEntries, entries-struck, entries-enlisted}
 use Rattle.model.proofs.Heads.{HeadWords, words-listed, words-unlisted, live-listed, live-unlisted}
 use Rattle.model.proofs.Partitions.{modify, modify-at, modify-off, Laid}
-use Rattle.model.proofs.PartitionsCalls.{list-long, laid-buffered, laid-unbuffered, laid-unlisted, laid-listed, not-listed, deleted-listed, deleted-stamped}
+use Rattle.model.proofs.PartitionsCalls.{list-long, laid-buffered, laid-unbuffered, laid-unlisted, laid-listed, not-listed}
 use Rattle.history.proofs.Table.{Part, remade, isEmpty, mustList, enlist, stored as storedPart, deleted as deletedPart, passing as passingOf}
 use Rattle.history.proofs.Core.{PartOk}
 use Rattle.history.proofs.Walk.{LiveBatches, passing-live}
 use Rattle.history.proofs.Pages.{ShowsPage, shows-stored, shows-without}
-use Rattle.history.proofs.Shows.{ShowsPart, shows-laid, list-count, list-find, list-has}
+use Rattle.history.proofs.Shows.{ShowsPart, shows-laid, list-count, list-find}
 use Rattle.history.proofs.Passing.{passing-shown}
 
 module _ (g : Geometry) (ok : allowed g ≡ true) (t : ℕ) (p f : List ℕ) (s : Part) (shows : ShowsPart g t p f s) where
@@ -101,9 +100,10 @@ module _ (g : Geometry) (ok : allowed g ≡ true) (t : ℕ) (p f : List ℕ) (s 
   shows-del (n ∷ ns) room live =
       shows-listed g ok t (unbuffered g k p) f erased shows-erased k n hk (omega (arith, live .0 .flushed, shows .flushes, shows .words .flushes)) (room refl)
 
-  pub shows-deleted : (mustList g k s ≡ true → length (s .list) < g .list) → ShowsPart g t (deleted g k p) f (deletedPart g k s)
+  -- of a key that is not listed
+  pub shows-deleted : isSome (find k (s .list)) ≡ false → (mustList g k s ≡ true → length (s .list) < g .list)
+      → ShowsPart g t (listedWith (stampFor g k p) g k (unbuffered g k p)) f (deletedPart g k s)
   unfolding deletedPart mustList
-  shows-deleted room = either (isSome (find k (s .list)))
-      (λ h. rw (deleted-listed g k p (list-has shows k ∙ h)) (simp h shows))
-      (λ h. rw (deleted-stamped g k p (list-has shows k ∙ h), passing-shown g ok t p f s shows k (part .liveFlushed))
-      (simp h (shows-del (passingOf g k s) (λ some. room (simp (h, some))) (passing-live g k s (part .liveFlushed)))))
+  shows-deleted new room =
+      rw (passing-shown g ok t p f s shows k (part .liveFlushed))
+      (simp new (shows-del (passingOf g k s) (λ some. room (simp (new, some))) (passing-live g k s (part .liveFlushed))))

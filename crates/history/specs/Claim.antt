@@ -1,16 +1,17 @@
--- Demand 3: one claim about the whole list of calls, whatever its length and order.
-use Prim.Native.Nat.{ℕ, suc, _*_, _^_, _≤_, _<_}
+-- Demand 3: one claim about the whole list of calls, whatever its length and order; and beside it what document 02 promises from a format on.
+use Prim.Native.Nat.{ℕ, suc, _+_, _-_, _*_, _^_, _≤_, _<_}
 use mathlib.Core.Bool.{Bool, true, false}
 use mathlib.Core.Path.{_≡_}
 use mathlib.Core.List.{List, [], _∷_}
 use mathlib.Core.Option.{Option, none, some}
 use lib.ListN.{length}
 use Rattle.model.specs.declared.Geometry.{Geometry}
-use Rattle.model.specs.Geometry.{capacity}
+use Rattle.model.specs.Geometry.{partitions, capacity}
 use Rattle.model.specs.Keys.{partitionOf}
-use Rattle.model.specs.Partition.{flushesOf}
+use Rattle.model.specs.Partition.{headOf, flushesOf, bufferOf, live}
+use Rattle.model.specs.Batch.{batchPage, sum, entriesOf}
 use Rattle.model.specs.Answers.{Areas, Answer, done, found, absent, shown, refused}
-use Rattle.model.specs.Calls.{Call, format, put, get, del, flush, view, geometryIn, keyPartition, reply, run}
+use Rattle.model.specs.Calls.{Call, format, put, get, del, flush, view, count, geometryIn, partitionIn, keyPartition, reply, run}
 use Rattle.history.specs.History.{Known, History, events, remember}
 use Rattle.history.specs.Reads.{readBy, LiveFalling, Follows}
 
@@ -22,6 +23,7 @@ Fits (get k) = k < 2 ^ 64
 Fits (del k) = k < 2 ^ 64
 Fits (flush t) = Unit {0}
 Fits (view t q n) = Unit {0}
+Fits (count t) = Unit {0}
 
 abbrev pub AllFit : List Call → Type 0
 AllFit [] = Unit {0}
@@ -78,3 +80,15 @@ FromFormat Claimed = (a : Areas) (h : History) (g : Geometry) → isRefused (rep
 
 unfoldable pub Demand3 : Type 0
 Demand3 = FromFormat Holds
+
+-- The page counts of a partition's buffer pages and of its live batches' pages in flash, together. Batch F − i is live for i below the live number.
+unfoldable pub entriesHeld : Geometry → ℕ → List ℕ → List ℕ → ℕ
+entriesHeld g t p f = entriesOf (bufferOf g p) (g .pages) + sum (live g (headOf p)) (λ i. entriesOf (batchPage g t f (flushesOf p - i)) (g .pages))
+
+-- A count of any partition is accepted, and answers that.
+-- Document 02: "Head bytes 8 to 11 hold the total, from a format on always equal to the sum of the page counts."
+abbrev pub Counts : Areas → History → Type 0
+Counts a h = (t : ℕ) → t < partitions (h .geometry) → reply a (count t) ≡ done (entriesHeld (geometryIn a) t (partitionIn a t) (a .flash))
+
+unfoldable pub CountsHeld : Type 0
+CountsHeld = FromFormat Counts

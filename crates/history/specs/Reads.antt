@@ -11,7 +11,7 @@ use Rattle.model.specs.Page.{valueAt, searched, expected}
 use Rattle.model.specs.DeleteList.{listedAt}
 use Rattle.model.specs.Partition.{headOf, listedOf, listOf, bufferOf, isLive, batchPasses, passing}
 use Rattle.model.specs.Answers.{Areas, Answer, done, found, absent, shown, refused, buffer, batch}
-use Rattle.model.specs.Get.{batchPage}
+use Rattle.model.specs.Batch.{batchPage}
 use Rattle.model.specs.Calls.{geometryIn, keyPartition}
 
 -- Of these batches, those whose page a get of k reads: it goes on past a page that is as it must be and does not hold the key.

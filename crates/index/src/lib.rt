@@ -1,4 +1,4 @@
-// The six calls on memory and flash of any length and content. Each but format opens the table first; what it does then stands in the crate of its name.
+// The seven calls on memory and flash of any length and content. Each but format opens the table first; what it does then stands in the crate of its name.
 ghost use denote.Ref.{ptr};
 ghost use mathlib.Core.Path.{_≡_};
 ghost use Rattle.model.specs.Calls.{Call, bytesShown};
@@ -64,6 +64,18 @@ pub fn flush(memory: &mut [u8], flash: &mut [u8], partition: u32) -> Written
     }
     let g = opening::geometry_of(memory);
     flush::call(memory, flash, g, partition)
+}
+
+// The partition's entries, buffer and live batches together, as its head says.
+pub fn count(memory: &[u8], flash: &[u8], partition: u32) -> Written
+    ensures { λ r. ⌜ Performs (Call.count partition) (now (memory .entry)) (now (flash .entry)) (written r) (now (memory .entry)) (now (flash .entry)) ⌝ }
+{
+    let number = opening::check(memory, flash);
+    if number != 0 {
+        return Written::Refused(Refusal { number, reads: 0 });
+    }
+    let g = opening::geometry_of(memory);
+    count::call(memory, flash, g, partition)
 }
 
 // Where one page stands, in memory or in flash, or the refusal with its reads.

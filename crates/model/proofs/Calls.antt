@@ -13,16 +13,17 @@ use Rattle.model.specs.Bytes.{within}
 use Rattle.model.specs.Geometry.{allowed, stride, partitionAt, memoryNeed, flashNeed}
 use Rattle.model.specs.Opening.{eighth}
 use Rattle.model.specs.Keys.{partitionOf}
-use Rattle.model.specs.Partition.{partition}
+use Rattle.model.specs.Partition.{partition, totalOf}
 use Rattle.model.specs.Answers.{Areas, Refusal, unread, Answer, done, found, absent, shown, refused}
 use Rattle.model.specs.Refusals.{refuseIf, unopened}
 use Rattle.model.specs.Format.{formatChecks, formatted}
-use Rattle.model.specs.Flush.{flushChecks, flushed, withBatch}
+use Rattle.model.specs.Flush.{flushChecks, flushIn, withBatch}
 use Rattle.model.specs.Put.{due, putChecks, putIn}
 use Rattle.model.specs.Get.{getChecks, sought}
 use Rattle.model.specs.Del.{delChecks, deleted}
 use Rattle.model.specs.View.{viewChecks, pageShown, viewed}
-use Rattle.model.specs.Calls.{Call, format, put, get, del, flush, view, geometryIn, keyPartition, checks, result, reply, effect, unlessRefused, after}
+use Rattle.model.specs.Count.{countChecks}
+use Rattle.model.specs.Calls.{Call, format, put, get, del, flush, view, count, geometryIn, keyPartition, checks, result, reply, effect, unlessRefused, after}
 use Rattle.model.proofs.Tests.{neither}
 use Rattle.model.proofs.Checks.{refuse-none, position-not-0, put-accepted}
 
@@ -109,6 +110,7 @@ Opens (get k) = Unit {0}
 Opens (del k) = Unit {0}
 Opens (flush t) = Unit {0}
 Opens (view t q n) = Unit {0}
+Opens (count t) = Unit {0}
 
 pub stopped : (a : Areas) (r : Refusal) → ((later : Option Refusal) → unopened a later ≡ some r) → (c : Call) → Opens c → checks a c ≡ some r
 unfolding checks
@@ -118,11 +120,12 @@ stopped a r always (get k) o = always _
 stopped a r always (del k) o = always _
 stopped a r always (flush t) o = always _
 stopped a r always (view t q n) o = always _
+stopped a r always (count t) o = always _
 
 -- a put of 0 is accepted on no areas
 pub put-not-0 : (a : Areas) (k : ℕ) → checks a (put k 0) ≡ none → ⊥
 unfolding checks
-put-not-0 a k e = position-not-0 0 (put-accepted (geometryIn a) k (keyPartition a k) 0 (later-passed a _ e) .0) refl
+put-not-0 a k e = position-not-0 0 (put-accepted (geometryIn a) k (keyPartition a k) 0 (a .flash) (later-passed a _ e) .0) refl
 
 -- ---- on areas with this geometry
 pub checks-format : (a : Areas) (g : Geometry) → checks a (format g) ≡ formatChecks g a
@@ -131,7 +134,7 @@ checks-format a g = refl
 
 module _ (a : Areas) (g : Geometry) (own : geometryIn a ≡ g) where
   module _ (opens : (later : Option Refusal) → unopened a later ≡ later) where
-    pub checks-put : (k v : ℕ) → checks a (put k v) ≡ putChecks g k v (partition g (partitionOf g k) (a .memory))
+    pub checks-put : (k v : ℕ) → checks a (put k v) ≡ putChecks g k v (partition g (partitionOf g k) (a .memory)) (a .flash)
     unfolding checks
     checks-put k v = opens _ ∙ rw own
 
@@ -143,13 +146,17 @@ module _ (a : Areas) (g : Geometry) (own : geometryIn a ≡ g) where
     unfolding checks
     checks-del k = opens _ ∙ rw own
 
-    pub checks-flush : (t : ℕ) → checks a (flush t) ≡ flushChecks g t (partition g t (a .memory))
+    pub checks-flush : (t : ℕ) → checks a (flush t) ≡ flushChecks g t (partition g t (a .memory)) (a .flash)
     unfolding checks
     checks-flush t = opens _ ∙ rw own
 
     pub checks-view : (t q n : ℕ) → checks a (view t q n) ≡ viewChecks g t q n (partition g t (a .memory))
     unfolding checks
     checks-view t q n = opens _ ∙ rw own
+
+    pub checks-count : (t : ℕ) → checks a (count t) ≡ countChecks g t (partition g t (a .memory))
+    unfolding checks
+    checks-count t = opens _ ∙ rw own
 
   pub result-put : (k v : ℕ) (b : Bool) → due g k (partition g (partitionOf g k) (a .memory)) ≡ b → result a (put k v) ≡ done (cond b (g .pages) 0)
   unfolding result
@@ -167,12 +174,16 @@ module _ (a : Areas) (g : Geometry) (own : geometryIn a ≡ g) where
   unfolding result
   result-view t q n = rw own
 
+  pub result-count : (t : ℕ) → result a (count t) ≡ done (totalOf (partition g t (a .memory)))
+  unfolding result
+  result-count t = rw own
+
   -- partition t of memory changed by f, and flash
   abbrev pub changedAt : ℕ → (List ℕ → List ℕ) → List ℕ → Areas
   changedAt t f flash = record { memory = within (partitionAt g t) (stride g) f (a .memory); flash = flash }
 
   pub effect-put : (k v : ℕ) (b : Bool) → due g k (partition g (partitionOf g k) (a .memory)) ≡ b → effect a (put k v)
-      ≡ changedAt (partitionOf g k) (putIn g k v) (cond b (withBatch g (partitionOf g k) (partition g (partitionOf g k) (a .memory)) (g .pages) (a .flash)) (a .flash))
+      ≡ changedAt (partitionOf g k) (putIn g k v (a .flash)) (cond b (withBatch g (partitionOf g k) (partition g (partitionOf g k) (a .memory)) (g .pages) (a .flash)) (a .flash))
   unfolding effect
   effect-put k v b e = rw (own, e)
 
@@ -180,7 +191,7 @@ module _ (a : Areas) (g : Geometry) (own : geometryIn a ≡ g) where
   unfolding effect
   effect-del k = rw own
 
-  pub effect-flush : (t : ℕ) → effect a (flush t) ≡ changedAt t (flushed g t) (withBatch g t (partition g t (a .memory)) (g .pages) (a .flash))
+  pub effect-flush : (t : ℕ) → effect a (flush t) ≡ changedAt t (flushIn g t (a .flash)) (withBatch g t (partition g t (a .memory)) (g .pages) (a .flash))
   unfolding effect
   effect-flush t = rw own
 
@@ -203,6 +214,10 @@ effect-get a k = refl
 pub effect-view : (a : Areas) (t q n : ℕ) → effect a (view t q n) ≡ a
 unfolding effect
 effect-view a t q n = refl
+
+pub effect-count : (a : Areas) (t : ℕ) → effect a (count t) ≡ a
+unfolding effect
+effect-count a t = refl
 
 -- a view of the buffer, or of a batch
 pub viewed-page : (g : Geometry) (t q n : ℕ) (f : List ℕ) → viewed g t q n f ≡ pageShown (eqb n 0) g t q n f

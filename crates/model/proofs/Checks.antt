@@ -7,28 +7,34 @@ use mathlib.Core.Option.{Option, none, some}
 use native.Mathlib.Omega.{arith}
 use lib.Dec.{eqb, ltb}
 use lib.ListN.{length}
-use borrow.Author.Tests.{ltb-true, ltb-false, lt-ltb, le-ltb, eqb-false, eq-eqb, ne-eqb, not-false}
+use borrow.Author.Tests.{ltb-true, ltb-false, lt-ltb, le-ltb, eqb-false, eq-eqb, ne-eqb, not-false, not-true}
 use Rattle.model.specs.declared.Geometry.{Geometry}
 use Rattle.model.specs.Search.{firstFrom, isSome, anyFrom}
 use Rattle.model.specs.Geometry.{allowed, partitions, capacity, memoryNeed, flashNeed}
-use Rattle.model.specs.Keys.{pageOf}
-use Rattle.model.specs.Page.{countOf, searched}
+use Rattle.model.specs.Keys.{partitionOf, pageOf}
+use Rattle.model.specs.Page.{countOf, searched, added, taken}
 use Rattle.model.specs.Partition.{headOf, flushesOf, listedOf, bufferOf, isLive}
+use Rattle.model.specs.Batch.{failedHead, dropped}
 use Rattle.model.specs.Answers.{Areas, Refusal, unread}
-use Rattle.model.specs.Refusals.{refuseIf, headOverfull, pageOverfull, keyOverfull, somePageOverfull, lastFlush}
+use Rattle.model.specs.Refusals.{refuseIf, refuseHead, headOverfull, pageOverfull, keyOverfull, somePageOverfull, totalOut, lastFlush}
 use Rattle.model.specs.Format.{formatChecks}
-use Rattle.model.specs.Flush.{inUse, flushChecks}
-use Rattle.model.specs.Put.{noPosition, due, putChecks}
+use Rattle.model.specs.Flush.{inUse, dueChecks, flushChecks}
+use Rattle.model.specs.Put.{noPosition, due, appends, putDrops, putChecks}
 use Rattle.model.specs.Get.{getChecks}
-use Rattle.model.specs.Del.{isListed, stampFor, delChecks}
+use Rattle.model.specs.Del.{isListed, stampFor, removes, delChecks}
 use Rattle.model.specs.View.{viewChecks}
-use Rattle.model.proofs.Tests.{neither}
+use Rattle.model.specs.Count.{countChecks}
+use Rattle.model.proofs.Tests.{neither, both-true}
 use Rattle.model.proofs.Searching.{first-none}
 
 -- a refusal that was not given: its condition does not hold, nor do those after it
 pub refuse-none : (b : Bool) (n : ℕ) (later : Option Refusal) → refuseIf b n later ≡ none → (b ≡ false) × (later ≡ none)
 refuse-none true n later h = let z : _≡_ {A = ℕ} 0 1 = cc in absurd (omega arith)
 refuse-none false n later h = (refl, h)
+
+heads-none : (o : Option ℕ) (later : Option Refusal) → refuseHead o later ≡ none → (o ≡ none) × (later ≡ none)
+heads-none (some q) later h = let z : _≡_ {A = ℕ} 0 1 = cc in absurd (omega arith)
+heads-none none later h = (refl, h)
 
 -- a test that none passes
 any-none : (n i : ℕ) (test : ℕ → Bool) → ((j : ℕ) → j < i + n → test j ≡ false) → anyFrom n i test ≡ false
@@ -94,7 +100,7 @@ module _ (g : Geometry) (a : Areas) where
       let three = refuse-none (ltb (length (a .flash)) (flashNeed g)) 3 none (two .1) in
       (not-false (allowed g) (one .0), ltb-false _ _ (two .0), ltb-false _ _ (three .0))
 
--- ---- put: which values are no position; when a flush is due; 21, 12, 16
+-- ---- put: which values are no position; when a flush is due; 21, 12, 12 or what a flush checks that is due
 module _ (v : ℕ) where
   pub no-position : v ≡ 0 → noPosition v ≡ true
   unfolding noPosition
@@ -129,40 +135,59 @@ module _ (g : Geometry) (k : ℕ) (p : List ℕ) where
   unfolding due
   undue-room h e = eqb-false (countOf page) (capacity g) (rw e at h)
 
-  module _ (v : ℕ) where
-    pub put-21 : noPosition v ≡ true → putChecks g k v p ≡ some (unread 21)
+  -- an append adds 1, and so does every put that flushes
+  pub appends-found : (i : ℕ) → searched k page ≡ some i → appends g k p ≡ 0
+  unfolding appends added
+  appends-found i e = rw e
+
+  pub appends-new : searched k page ≡ none → appends g k p ≡ 1
+  unfolding appends added
+  appends-new e = rw e
+
+  pub appends-due : due g k p ≡ true → appends g k p ≡ 1
+  unfolding due
+  appends-due e = appends-new (none-found _ (not-true _ (both-true (not (isSome (searched k page))) (eqb (countOf page) (capacity g)) e .0)))
+
+  pub drops-undue : (f : List ℕ) → due g k p ≡ false → putDrops g k p f ≡ 0
+  unfolding putDrops
+  drops-undue f e = rw e
+
+  pub drops-due : (f : List ℕ) → due g k p ≡ true → putDrops g k p f ≡ dropped g (partitionOf g k) p f
+  unfolding putDrops
+  drops-due f e = rw e
+
+  module _ (v : ℕ) (f : List ℕ) where
+    pub put-21 : noPosition v ≡ true → putChecks g k v p f ≡ some (unread 21)
     unfolding putChecks
     put-21 e = rw e
 
     module _ (position : noPosition v ≡ false) where
-      pub put-12 : keyOverfull g k p ≡ true → putChecks g k v p ≡ some (unread 12)
+      pub put-12 : keyOverfull g k p ≡ true → putChecks g k v p f ≡ some (unread 12)
       unfolding putChecks
       put-12 e = rw (position, e)
 
       module _ (fits : keyOverfull g k p ≡ false) where
-        pub put-undue : due g k p ≡ false → putChecks g k v p ≡ none
+        pub put-undue : due g k p ≡ false → putChecks g k v p f ≡ refuseIf (totalOut g (appends g k p) 0 (headOf p)) 12 none
         unfolding putChecks
         put-undue e = rw (position, fits, e)
 
-        pub put-12-due : due g k p ≡ true → somePageOverfull g p ≡ true → putChecks g k v p ≡ some (unread 12)
+        pub put-12-due : due g k p ≡ true → somePageOverfull g p ≡ true → putChecks g k v p f ≡ some (unread 12)
         unfolding putChecks
         put-12-due is-due e = rw (position, fits, is-due, e)
 
-    -- with pages that fit, only a position or a flush number can be wanting
-    pub put-last : keyOverfull g k p ≡ false → somePageOverfull g p ≡ false
-        → putChecks g k v p ≡ refuseIf (noPosition v) 21 (refuseIf (due g k p && eqb (flushesOf p) lastFlush) 16 none)
-    unfolding putChecks
-    put-last fits e = rw (fits, e, and-false)
+        pub put-due : due g k p ≡ true → somePageOverfull g p ≡ false → putChecks g k v p f ≡ dueChecks g (partitionOf g k) 1 p f
+        unfolding putChecks
+        put-due is-due e = rw (position, fits, is-due, e)
 
-    pub put-accepted : putChecks g k v p ≡ none
-        → (noPosition v ≡ false) × (keyOverfull g k p ≡ false) × (due g k p && somePageOverfull g p ≡ false) × (due g k p && eqb (flushesOf p) lastFlush ≡ false)
+    -- what an accepted put passed: by whether a flush was due
+    pub put-accepted : putChecks g k v p f ≡ none → (noPosition v ≡ false) × (keyOverfull g k p ≡ false)
+        × (due g k p ≡ false → totalOut g (appends g k p) 0 (headOf p) ≡ false)
+        × (due g k p ≡ true → (somePageOverfull g p ≡ false) × (dueChecks g (partitionOf g k) 1 p f ≡ none))
     unfolding putChecks
     put-accepted e =
         let one = refuse-none (noPosition v) 21 _ e in
         let two = refuse-none (keyOverfull g k p) 12 _ (one .1) in
-        let three = refuse-none (due g k p && somePageOverfull g p) 12 _ (two .1) in
-        let four = refuse-none (due g k p && eqb (flushesOf p) lastFlush) 16 none (three .1) in
-        (one .0, two .0, three .0, four .0)
+        (one .0, two .0, (λ d. refuse-none _ 12 none (rw d at (two .1)) .0), (λ d. refuse-none (somePageOverfull g p) 12 _ (rw d at (two .1))))
 
   -- ---- get: 12
   pub get-12 : keyOverfull g k p ≡ true → getChecks g k p ≡ some (unread 12)
@@ -173,48 +198,95 @@ module _ (g : Geometry) (k : ℕ) (p : List ℕ) where
   unfolding getChecks
   get-passes e = rw e
 
-  -- ---- del: 12, 14
+  -- ---- del: 12, 14, 12
   pub del-12 : keyOverfull g k p ≡ true → delChecks g k p ≡ some (unread 12)
   unfolding delChecks
   del-12 e = rw e
 
-  -- with what fits, only a place in the list can be wanting
-  pub del-full : keyOverfull g k p ≡ false
-      → delChecks g k p ≡ refuseIf (not (isListed g k p) && isSome (stampFor g k p) && eqb (listedOf p) (g .list)) 14 none
+  -- with what fits, only a place in the list can be wanting, or an entry in the total
+  pub del-full : keyOverfull g k p ≡ false → delChecks g k p
+      ≡ refuseIf (not (isListed g k p) && isSome (stampFor g k p) && eqb (listedOf p) (g .list)) 14 (refuseIf (totalOut g 0 (removes g k p) (headOf p)) 12 none)
   unfolding delChecks
   del-full e = rw e
 
--- ---- flush: 4, 12, 15, 16
-module _ (g : Geometry) (t : ℕ) (p : List ℕ) where
-  pub flush-4 : partitions g ≤ t → flushChecks g t p ≡ some (unread 4)
+  -- what a del takes out of the buffer
+  pub removes-listed : isListed g k p ≡ true → removes g k p ≡ 0
+  unfolding removes
+  removes-listed e = rw e
+
+  pub removes-taken : isListed g k p ≡ false → removes g k p ≡ taken k page
+  unfolding removes
+  removes-taken e = rw e
+
+-- ---- a flush that is due: 16, 13, 12
+module _ (g : Geometry) (t more : ℕ) (p f : List ℕ) where
+  pub due-16 : flushesOf p ≡ lastFlush → dueChecks g t more p f ≡ some (unread 16)
+  unfolding dueChecks
+  due-16 e = rw (eq-eqb (flushesOf p) lastFlush e)
+
+  module _ (number : flushesOf p ≡ lastFlush → ⊥) where
+    -- with a flush number left
+    pub due-read : dueChecks g t more p f ≡ refuseHead (failedHead g t p f) (refuseIf (totalOut g more (dropped g t p f) (headOf p)) 12 none)
+    unfolding dueChecks
+    due-read = rw (ne-eqb (flushesOf p) lastFlush number)
+
+  pub due-last : failedHead g t p f ≡ none → totalOut g more (dropped g t p f) (headOf p) ≡ false → dueChecks g t more p f ≡ refuseIf (eqb (flushesOf p) lastFlush) 16 none
+  unfolding dueChecks
+  due-last heads e = rw (heads, e)
+
+  pub due-accepted : dueChecks g t more p f ≡ none
+      → (eqb (flushesOf p) lastFlush ≡ false) × (failedHead g t p f ≡ none) × (totalOut g more (dropped g t p f) (headOf p) ≡ false)
+  unfolding dueChecks
+  due-accepted e =
+      let one = refuse-none (eqb (flushesOf p) lastFlush) 16 _ e in
+      let two = heads-none (failedHead g t p f) _ (one .1) in
+      (one .0, two .0, refuse-none (totalOut g more (dropped g t p f) (headOf p)) 12 none (two .1) .0)
+
+-- ---- flush: 4, 12, 15, and what a flush checks that is due
+module _ (g : Geometry) (t : ℕ) (p f : List ℕ) where
+  pub flush-4 : partitions g ≤ t → flushChecks g t p f ≡ some (unread 4)
   unfolding flushChecks
   flush-4 l = rw (le-ltb t (partitions g) l)
 
   module _ (below : t < partitions g) where
-    pub flush-12 : headOverfull g (headOf p) ≡ true → flushChecks g t p ≡ some (unread 12)
+    pub flush-12 : headOverfull g (headOf p) ≡ true → flushChecks g t p f ≡ some (unread 12)
     unfolding flushChecks
     flush-12 e = rw (lt-ltb t (partitions g) below, e)
 
     module _ (head : headOverfull g (headOf p) ≡ false) where
-      pub flush-12-page : somePageOverfull g p ≡ true → flushChecks g t p ≡ some (unread 12)
+      pub flush-12-page : somePageOverfull g p ≡ true → flushChecks g t p f ≡ some (unread 12)
       unfolding flushChecks
       flush-12-page e = rw (lt-ltb t (partitions g) below, head, e)
 
-      -- with what fits, only an entry or a flush number can be wanting
-      pub flush-last : somePageOverfull g p ≡ false → flushChecks g t p ≡ refuseIf (not (inUse g p)) 15 (refuseIf (eqb (flushesOf p) lastFlush) 16 none)
+      -- with what fits, only an entry can be wanting, or what a flush needs that is due
+      pub flush-last : somePageOverfull g p ≡ false → flushChecks g t p f ≡ refuseIf (not (inUse g p)) 15 (dueChecks g t 0 p f)
       unfolding flushChecks
       flush-last e = rw (lt-ltb t (partitions g) below, head, e)
 
-  pub flush-accepted : flushChecks g t p ≡ none
-      → (t < partitions g) × (headOverfull g (headOf p) ≡ false) × (somePageOverfull g p ≡ false) × (inUse g p ≡ true) × (eqb (flushesOf p) lastFlush ≡ false)
+  pub flush-accepted : flushChecks g t p f ≡ none
+      → (t < partitions g) × (headOverfull g (headOf p) ≡ false) × (somePageOverfull g p ≡ false) × (inUse g p ≡ true) × (dueChecks g t 0 p f ≡ none)
   unfolding flushChecks
   flush-accepted e =
       let one = refuse-none (not (ltb t (partitions g))) 4 _ e in
       let two = refuse-none (headOverfull g (headOf p)) 12 _ (one .1) in
       let three = refuse-none (somePageOverfull g p) 12 _ (two .1) in
       let four = refuse-none (not (inUse g p)) 15 _ (three .1) in
-      let five = refuse-none (eqb (flushesOf p) lastFlush) 16 none (four .1) in
-      (ltb-true t (partitions g) (not-false _ (one .0)), two .0, three .0, not-false _ (four .0), five .0)
+      (ltb-true t (partitions g) (not-false _ (one .0)), two .0, three .0, not-false _ (four .0), four .1)
+
+-- ---- count: 4, 12
+module _ (g : Geometry) (t : ℕ) (p : List ℕ) where
+  pub count-4 : partitions g ≤ t → countChecks g t p ≡ some (unread 4)
+  unfolding countChecks
+  count-4 l = rw (le-ltb t (partitions g) l)
+
+  module _ (below : t < partitions g) where
+    pub count-12 : headOverfull g (headOf p) ≡ true → countChecks g t p ≡ some (unread 12)
+    unfolding countChecks
+    count-12 e = rw (lt-ltb t (partitions g) below, e)
+
+    pub count-passes : headOverfull g (headOf p) ≡ false → countChecks g t p ≡ none
+    unfolding countChecks
+    count-passes e = rw (lt-ltb t (partitions g) below, e)
 
 -- ---- view: 4, 12, 17
 module _ (g : Geometry) (t q n : ℕ) (p : List ℕ) where

@@ -1,23 +1,25 @@
 -- One word for an `unfolding` line: it opens all that a list of calls is made of, so that its answers compute.
 use Rattle.model.specs.Bytes.{word, bytesOf, write, within}
 use Rattle.model.specs.Search.{firstFrom}
-use Rattle.model.specs.Geometry.{isPower, allowed, filterAt, bufferAt, stride, partitionAt, memoryNeed, slotPageAt, flashNeed}
+use Rattle.model.specs.Geometry.{isPower, allowed, mostEntries, filterAt, bufferAt, stride, partitionAt, memoryNeed, slotPageAt, flashNeed}
 use Rattle.model.specs.Opening.{geometryOf, withOpening}
 use Rattle.model.specs.Keys.{partitionOf, pageOf, mixed, bitOf}
 use Rattle.model.specs.Records.{staying, stayingBytes, closedUp}
-use Rattle.model.specs.Page.{appended, replaced, removed, stored, without, emptied, numbered, expected}
+use Rattle.model.specs.Page.{appended, replaced, removed, stored, added, without, taken, emptied, numbered, expected}
 use Rattle.model.specs.DeleteList.{enlisted, struck, expired, unexpired}
 use Rattle.model.specs.Filter.{withBit, passes, withBits, withEntries, withPages, filterFor}
-use Rattle.model.specs.Partition.{withHead, live, isLive, slotBits, batchPasses, passingFrom, passing}
-use Rattle.model.specs.Refusals.{unopened, headOverfull, pageOverfull, keyOverfull, somePageOverfull}
+use Rattle.model.specs.Partition.{withHead, totalled, live, isLive, slotBits, batchPasses, passingFrom, passing}
+use Rattle.model.specs.Batch.{sum, pushesOut, failedHead, dropped}
+use Rattle.model.specs.Refusals.{unopened, headOverfull, pageOverfull, keyOverfull, somePageOverfull, totalOut}
 use Rattle.model.specs.Format.{formatChecks, emptiedPages, emptiedPartitions, formatted}
-use Rattle.model.specs.Flush.{flushChecks, filtered, delisted, headAfter, flushed, withBatch}
-use Rattle.model.specs.Put.{due, noPosition, putChecks, unlisted, buffered, putIn}
+use Rattle.model.specs.Flush.{dueChecks, flushChecks, filtered, delisted, headAfter, flushed, flushIn, withBatch}
+use Rattle.model.specs.Put.{due, noPosition, appends, putDrops, putChecks, unlisted, buffered, putIn}
 use Rattle.model.specs.Get.{getChecks, readThrough, sought}
-use Rattle.model.specs.Del.{delChecks, unbuffered, deleted}
+use Rattle.model.specs.Del.{removes, delChecks, unbuffered, deleted}
 use Rattle.model.specs.View.{viewChecks, viewed}
+use Rattle.model.specs.Count.{countChecks}
 use Rattle.model.specs.Calls.{checks, result, reply, effect, after, run, replies}
 
 unfoldable pub computing : Type 0
-unfolding word bytesOf write within firstFrom isPower allowed filterAt bufferAt stride partitionAt memoryNeed slotPageAt flashNeed geometryOf withOpening partitionOf pageOf mixed bitOf staying stayingBytes closedUp appended replaced removed stored without emptied numbered expected enlisted struck expired unexpired withBit passes withBits withEntries withPages filterFor withHead live isLive slotBits batchPasses passingFrom passing unopened headOverfull pageOverfull keyOverfull somePageOverfull formatChecks emptiedPages emptiedPartitions formatted flushChecks filtered delisted headAfter flushed withBatch due noPosition putChecks unlisted buffered putIn getChecks readThrough sought delChecks unbuffered deleted viewChecks viewed checks result reply effect after run replies
+unfolding word bytesOf write within firstFrom isPower allowed mostEntries filterAt bufferAt stride partitionAt memoryNeed slotPageAt flashNeed geometryOf withOpening partitionOf pageOf mixed bitOf staying stayingBytes closedUp appended replaced removed stored added without taken emptied numbered expected enlisted struck expired unexpired withBit passes withBits withEntries withPages filterFor withHead totalled live isLive slotBits batchPasses passingFrom passing sum pushesOut failedHead dropped unopened headOverfull pageOverfull keyOverfull somePageOverfull totalOut formatChecks emptiedPages emptiedPartitions formatted dueChecks flushChecks filtered delisted headAfter flushed flushIn withBatch due noPosition appends putDrops putChecks unlisted buffered putIn getChecks readThrough sought removes delChecks unbuffered deleted viewChecks viewed countChecks checks result reply effect after run replies
 computing = Unit {0}

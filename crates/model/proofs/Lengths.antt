@@ -10,7 +10,7 @@ use Rattle.model.specs.Opening.{withOpening}
 use Rattle.model.specs.Page.{searched, appended, replaced, removed, storedAt, stored, removedAt, without, emptied, numbered}
 use Rattle.model.specs.DeleteList.{listedAt, enlisted, struck, expired}
 use Rattle.model.specs.Filter.{withBit, withBits, withEntries, withPages, filterFor}
-use Rattle.model.specs.Partition.{Head, withHead, listedOf, listOf}
+use Rattle.model.specs.Partition.{Head, withHead, totalled, listedOf, listOf}
 use Rattle.model.specs.Format.{emptiedPages, emptiedPartitions, formatted}
 use Rattle.model.specs.Flush.{filtered, delisted, flushed, withBatch}
 use Rattle.model.specs.Put.{unlistedAt, unlisted, buffered}
@@ -98,6 +98,10 @@ length-filterFor g page = simp (length-withPages, length-replicate)
 pub length-withHead : (h : Head) (p : List ℕ) → length (withHead h p) ≡ length p
 unfolding withHead
 length-withHead h p = simp length-write
+
+pub length-totalled : (more less : ℕ) (p : List ℕ) → length (totalled more less p) ≡ length p
+unfolding totalled
+length-totalled more less p = length-withHead _ p
 
 pub length-withOpening : (g : Geometry) (m : List ℕ) → length (withOpening g m) ≡ length m
 unfolding withOpening

@@ -5,6 +5,7 @@ pub mod Blocks
 pub mod Searching
 pub mod Closing
 pub mod Powers
+pub mod Sums
 pub mod Sizes
 pub mod Lengths
 pub mod Bits
@@ -18,8 +19,9 @@ pub mod Heads
 pub mod Partitions
 pub mod PartitionsFlash
 pub mod PartitionsFormat
-pub mod PartitionsCalls
 pub mod Checks
+pub mod PartitionsCalls
+pub mod Totals
 pub mod Lookup
 pub mod Calls
 pub mod Texts

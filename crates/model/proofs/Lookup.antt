@@ -15,7 +15,8 @@ use Rattle.model.specs.Page.{countOf, searched, expected}
 use Rattle.model.specs.DeleteList.{listedAt}
 use Rattle.model.specs.Partition.{listedOf, listOf, bufferOf, passing}
 use Rattle.model.specs.Answers.{absent, refused, tally, buffer, batch}
-use Rattle.model.specs.Get.{batchPage, hitIn, readThrough, sought}
+use Rattle.model.specs.Batch.{batchPage}
+use Rattle.model.specs.Get.{hitIn, readThrough, sought}
 use Rattle.model.proofs.Sizes.{sizes}
 use Rattle.model.proofs.Tests.{both-true}
 

@@ -80,7 +80,7 @@ module _ (g : Geometry) (ok : allowed g ≡ true) where
       behind-head : (b n : ℕ) → 16 ≤ b → b + n ≤ stride g → mid b n (withHead h′ p) ≡ mid b n p
       unfolding withHead
       behind-head b n low high = mid-ext b b n _ p (omega (arith, length-withHead h′ p, at .long)) (omega (arith, at .long))
-          (λ i m. getD-write-out 8 _ 8 _ (b + i) (omega arith) ∙ getD-write-out 4 _ 4 _ (b + i) (omega arith) ∙ getD-write-out 4 _ 0 p (b + i) (omega arith))
+          (λ i m. getD-write-out 4 _ 12 _ (b + i) (omega arith) ∙ getD-write-out 4 _ 8 _ (b + i) (omega arith) ∙ getD-write-out 4 _ 4 _ (b + i) (omega arith) ∙ getD-write-out 4 _ 0 p (b + i) (omega arith))
 
       pub laid-head : HeadWords h′ → Laid g (withHead h′ p) h′ l bits bs
       laid-head words =
@@ -96,7 +96,7 @@ module _ (g : Geometry) (ok : allowed g ≡ true) where
     -- a part behind the head changed: the list, a filter or a buffer page
     module _ (f : List ℕ → List ℕ) where
       same-head : (a n : ℕ) → 16 ≤ a → headOf (within a n f p) ≡ h
-      same-head a n low = rw (word-within-out 4 a n f p 0 (omega arith), word-within-out 4 a n f p 4 (omega arith), word-within-out 8 a n f p 8 (omega arith)) (at .head)
+      same-head a n low = rw (word-within-out 4 a n f p 0 (omega arith), word-within-out 4 a n f p 4 (omega arith), word-within-out 4 a n f p 8 (omega arith), word-within-out 4 a n f p 12 (omega arith)) (at .head)
 
       elsewhere : (a n b m : ℕ) → b + m ≤ stride g → Apart a n b m → mid b m (within a n f p) ≡ mid b m p
       elsewhere a n b m fits apart = mid-within-out a n f p b m (omega (arith, at .long)) apart

@@ -11,17 +11,19 @@ use Rattle.model.specs.Bytes.{within}
 use Rattle.model.specs.Search.{firstFrom}
 use Rattle.model.specs.Geometry.{allowed, listAt, listSize, bufferAt, stride}
 use Rattle.model.specs.Keys.{partitionOf, pageOf}
-use Rattle.model.specs.Page.{stored, without, emptied}
+use Rattle.model.specs.Page.{stored, without, taken, emptied}
 use Rattle.model.specs.DeleteList.{listedAt, struck, enlisted, expired}
 use Rattle.model.specs.Filter.{isSet, filterFor}
-use Rattle.model.specs.Partition.{Head, headOf, withHead, listedHead, unlistedHead, flushesOf, listedOf, listOf, bufferOf, slot, slotBits}
+use Rattle.model.specs.Partition.{Head, headOf, withHead, listedHead, unlistedHead, totalledHead, totalled, flushesOf, listedOf, totalOf, listOf, bufferOf, slot, slotBits}
+use Rattle.model.specs.Batch.{dropped}
 use Rattle.model.specs.Flush.{filtered, delisted, headAfter, flushed}
-use Rattle.model.specs.Put.{due, unlisted, buffered, putIn}
-use Rattle.model.specs.Del.{isListed, stampFor, unbuffered, listedWith, deleted}
+use Rattle.model.specs.Put.{due, appends, putDrops, unlisted, buffered, putIn}
+use Rattle.model.specs.Del.{isListed, removes, stampFor, unbuffered, listedWith, deleted}
 use Rattle.model.proofs.Parts.{length-mid}
 use Rattle.model.proofs.Sizes.{sizes, page-of-lt, slot-lt, buffer-fits}
 use Rattle.model.proofs.Lengths.{length-stored, length-without, length-struck, length-enlisted, length-expired, length-filterFor}
-use Rattle.model.proofs.Heads.{HeadWords, words-listed, words-unlisted, words-after}
+use Rattle.model.proofs.Heads.{HeadWords, words-listed, words-unlisted, words-totalled, words-after}
+use Rattle.model.proofs.Checks.{appends-due}
 use Rattle.model.proofs.Partitions.{modify, Laid, laid, list-fits, laid-head, laid-list, laid-filter, laid-buffer, laid-emptied}
 
 module _ (g : Geometry) (ok : allowed g ≡ true) (p : List ℕ) (long : length p ≡ stride g) where
@@ -63,6 +65,12 @@ module _ (g : Geometry) (ok : allowed g ≡ true) (p : List ℕ) (long : length 
         laid-head g ok (laid-list g ok (laid g p long) (enlisted (listedOf p) k stamp) (length-enlisted (listedOf p) k stamp (listOf g p) ∙ list-long)) _
         (words-listed (headOf p) words (omega (arith, sizes g ok .list-max)))
 
+    -- so many entries more and less by the head
+    pub laid-totalled : (more less : ℕ) → totalOf p + more - less < 2 ^ 32
+        → Laid g (totalled more less p) (totalledHead more less (headOf p)) (listOf g p) (slotBits g p) (bufferOf g p)
+    unfolding totalled
+    laid-totalled more less l = laid-head g ok (laid g p long) _ (words-totalled more less (headOf p) words l)
+
     -- batch F + 1 in its slot, the list without what expires, the buffer emptied
     pub laid-flushed : (t : ℕ) → flushesOf p + 1 < 2 ^ 32
         → Laid g (flushed g t p) (headAfter g p) (expired (g .kept) (flushesOf p) (listedOf p) (listOf g p))
@@ -90,15 +98,16 @@ module _ (g : Geometry) (k : ℕ) (p : List ℕ) where
   deleted-listed e = rw e
 
   -- otherwise the key leaves its buffer page, and is listed with the youngest live batch that passes, wherever it was
-  pub deleted-stamped : isListed g k p ≡ false → deleted g k p ≡ listedWith (stampFor g k p) g k (unbuffered g k p)
-  unfolding deleted
+  pub deleted-stamped : isListed g k p ≡ false → deleted g k p ≡ totalled 0 (taken k (bufferOf g p (pageOf g k))) (listedWith (stampFor g k p) g k (unbuffered g k p))
+  unfolding deleted removes
   deleted-stamped e = rw e
 
   -- a put, without a flush and with one
-  pub put-kept : (v : ℕ) → due g k p ≡ false → putIn g k v p ≡ unlisted g k (buffered g k v p)
-  unfolding putIn
-  put-kept v e = rw e
+  pub put-kept : (v : ℕ) (f : List ℕ) → due g k p ≡ false → putIn g k v f p ≡ totalled (appends g k p) 0 (unlisted g k (buffered g k v p))
+  unfolding putIn putDrops
+  put-kept v f e = rw e
 
-  pub put-flushed : (v : ℕ) → due g k p ≡ true → putIn g k v p ≡ unlisted g k (buffered g k v (flushed g (partitionOf g k) p))
-  unfolding putIn
-  put-flushed v e = rw e
+  pub put-flushed : (v : ℕ) (f : List ℕ) → due g k p ≡ true
+      → putIn g k v f p ≡ totalled 1 (dropped g (partitionOf g k) p f) (unlisted g k (buffered g k v (flushed g (partitionOf g k) p)))
+  unfolding putIn putDrops
+  put-flushed v f e = rw (e, appends-due g k p e)

@@ -8,7 +8,7 @@ use lib.Arith.{digits-lt}
 use lib.Dec.{leb}
 use lib.Pow.{shr-lt}
 use borrow.Author.Tests.{leb-true, le-leb}
-use Rattle.model.specs.Geometry.{between, isPower, allowed, partitions, capacity, filterSize, filterAt, bufferAt, stride, partitionAt, memoryNeed, slotPageAt, flashNeed}
+use Rattle.model.specs.Geometry.{between, isPower, allowed, partitions, capacity, mostEntries, filterSize, filterAt, bufferAt, stride, partitionAt, memoryNeed, slotPageAt, flashNeed}
 use Rattle.model.specs.Keys.{partitionOf, pageOf}
 use Rattle.model.specs.Partition.{slot}
 use Rattle.model.specs.declared.Geometry.{Geometry}
@@ -193,6 +193,14 @@ module _ (g : Geometry) (ok : allowed g ≡ true) where
   pub flash-max : flashNeed g ≤ 2147483648
   unfolding flashNeed
   flash-max = let z = sizes g ok in mul-le-mul (mul-le-mul (mul-le-mul (z .partitions-max) (z .kept-max)) (z .pages-max)) (z .page-max)
+
+  pub most-max : mostEntries g ≤ 538560
+  unfolding mostEntries
+  most-max =
+      let z = sizes g ok in
+      let kept : g .kept + 1 ≤ 33 = omega (arith, z .kept-max) in
+      let full : capacity g ≤ 255 = omega (arith, z .page-is, z .page-max) in
+      mul-le-mul (mul-le-mul kept (z .pages-max)) full
 
   -- ---- a key's partition and page, a batch's slot
   pub partition-of-lt : (k : ℕ) → k < 2 ^ 64 → partitionOf g k < partitions g

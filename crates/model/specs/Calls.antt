@@ -1,4 +1,4 @@
--- "The six calls": what each answers and leaves, on areas of any length and content, and a whole list of them.
+-- "The six calls", and count: what each answers and leaves, on areas of any length and content, and a whole list of them.
 use Prim.Native.Nat.{ℕ}
 use mathlib.Core.Bool.{cond}
 use mathlib.Core.List.{List, [], _∷_}
@@ -7,18 +7,19 @@ use Rattle.model.specs.Bytes.{within}
 use Rattle.model.specs.Geometry.{stride, partitionAt}
 use Rattle.model.specs.Opening.{geometryOf}
 use Rattle.model.specs.Keys.{partitionOf}
-use Rattle.model.specs.Partition.{partition}
+use Rattle.model.specs.Partition.{partition, totalOf}
 use Rattle.model.specs.Answers.{Areas, Refusal, Stretch, inMemory, bytesIn, Answer, done, found, absent, shown, refused}
 use Rattle.model.specs.Refusals.{unopened}
 use Rattle.model.specs.Format.{formatChecks, formatted}
-use Rattle.model.specs.Flush.{flushChecks, flushed, withBatch}
+use Rattle.model.specs.Flush.{flushChecks, flushIn, withBatch}
 use Rattle.model.specs.Put.{due, putChecks, putIn}
 use Rattle.model.specs.Get.{getChecks, sought}
 use Rattle.model.specs.Del.{delChecks, deleted}
 use Rattle.model.specs.View.{viewChecks, viewed}
+use Rattle.model.specs.Count.{countChecks}
 use Rattle.model.specs.declared.Geometry.{Geometry}
 
---     format geometry, put key value, get key, del key, flush partition, view partition page flush-number
+--     format geometry, put key value, get key, del key, flush partition, view partition page flush-number, count partition
 pub data Call : Type 0 where
   format : Geometry → Call
   put : ℕ → ℕ → Call
@@ -26,6 +27,7 @@ pub data Call : Type 0 where
   del : ℕ → Call
   flush : ℕ → Call
   view : ℕ → ℕ → ℕ → Call
+  count : ℕ → Call
 
 -- the geometry that memory opens with, and a partition's bytes
 abbrev pub geometryIn : Areas → Geometry
@@ -37,16 +39,17 @@ partitionIn a t = partition (geometryIn a) t (a .memory)
 abbrev pub keyPartition : Areas → ℕ → List ℕ
 keyPartition a k = partitionIn a (partitionOf (geometryIn a) k)
 
--- the refusals that are decided before any page of flash is read, in their order
+-- the refusals that are decided before anything is answered or written, in their order
 unfoldable pub checks : Areas → Call → Option Refusal
 checks a (format g) = formatChecks g a
-checks a (put k v) = unopened a (putChecks (geometryIn a) k v (keyPartition a k))
+checks a (put k v) = unopened a (putChecks (geometryIn a) k v (keyPartition a k) (a .flash))
 checks a (get k) = unopened a (getChecks (geometryIn a) k (keyPartition a k))
 checks a (del k) = unopened a (delChecks (geometryIn a) k (keyPartition a k))
-checks a (flush t) = unopened a (flushChecks (geometryIn a) t (partitionIn a t))
+checks a (flush t) = unopened a (flushChecks (geometryIn a) t (partitionIn a t) (a .flash))
 checks a (view t q n) = unopened a (viewChecks (geometryIn a) t q n (partitionIn a t))
+checks a (count t) = unopened a (countChecks (geometryIn a) t (partitionIn a t))
 
--- what a call answers that none of them stops; 13 may still come
+-- what a call answers that none of them stops; the 13 of get and view may still come
 unfoldable pub result : Areas → Call → Answer
 result a (format g) = done 0
 result a (put k v) = done (cond (due (geometryIn a) k (keyPartition a k)) (geometryIn a .pages) 0)
@@ -54,6 +57,7 @@ result a (get k) = sought (geometryIn a) k (keyPartition a k) (a .flash)
 result a (del k) = done 0
 result a (flush t) = done (geometryIn a .pages)
 result a (view t q n) = viewed (geometryIn a) t q n (a .flash)
+result a (count t) = done (totalOf (partitionIn a t))
 
 abbrev pub replyIf : Option Refusal → Answer → Answer
 replyIf (some r) x = refused (r .number) (r .reads)
@@ -74,12 +78,13 @@ flashAfter a t = withBatch (geometryIn a) t (partitionIn a t) (geometryIn a .pag
 unfoldable pub effect : Areas → Call → Areas
 effect a (format g) = record { memory = formatted g (a .memory); flash = a .flash }
 effect a (put k v) =
-    changed a (partitionOf (geometryIn a) k) (putIn (geometryIn a) k v)
+    changed a (partitionOf (geometryIn a) k) (putIn (geometryIn a) k v (a .flash))
     (cond (due (geometryIn a) k (keyPartition a k)) (flashAfter a (partitionOf (geometryIn a) k)) (a .flash))
 effect a (get k) = a
 effect a (del k) = changed a (partitionOf (geometryIn a) k) (deleted (geometryIn a) k) (a .flash)
-effect a (flush t) = changed a t (flushed (geometryIn a) t) (flashAfter a t)
+effect a (flush t) = changed a t (flushIn (geometryIn a) t (a .flash)) (flashAfter a t)
 effect a (view t q n) = a
+effect a (count t) = a
 
 -- a refused call changes no byte
 abbrev pub unlessRefused : Answer → Areas → Areas → Areas

@@ -8,11 +8,11 @@ use Rattle.model.specs.Bytes.{within}
 use Rattle.model.specs.Search.{isSome}
 use Rattle.model.specs.Geometry.{listAt, listSize, bufferAt}
 use Rattle.model.specs.Keys.{pageOf}
-use Rattle.model.specs.Page.{without}
+use Rattle.model.specs.Page.{without, taken}
 use Rattle.model.specs.DeleteList.{listedAt, enlisted}
-use Rattle.model.specs.Partition.{headOf, listedHead, withHead, listedOf, listOf, passing}
+use Rattle.model.specs.Partition.{headOf, listedHead, withHead, totalled, listedOf, listOf, bufferOf, passing}
 use Rattle.model.specs.Answers.{Refusal}
-use Rattle.model.specs.Refusals.{refuseIf, keyOverfull}
+use Rattle.model.specs.Refusals.{refuseIf, keyOverfull, totalOut}
 use Rattle.model.specs.declared.Geometry.{Geometry}
 
 abbrev pub isListed : Geometry → ℕ → List ℕ → Bool
@@ -26,11 +26,16 @@ youngest (n ∷ ns) = some n
 abbrev pub stampFor : Geometry → ℕ → List ℕ → Option ℕ
 stampFor g k p = youngest (passing g k p)
 
--- 12, 14
+-- the buffer entries that a del removes, 0 or 1
+unfoldable pub removes : Geometry → ℕ → List ℕ → ℕ
+removes g k p = cond (isListed g k p) 0 (taken k (bufferOf g p (pageOf g k)))
+
+-- 12, 14, 12
 unfoldable pub delChecks : Geometry → ℕ → List ℕ → Option Refusal
 delChecks g k p =
     refuseIf (keyOverfull g k p) 12
-    (refuseIf (not (isListed g k p) && isSome (stampFor g k p) && eqb (listedOf p) (g .list)) 14 none)
+    (refuseIf (not (isListed g k p) && isSome (stampFor g k p) && eqb (listedOf p) (g .list)) 14
+    (refuseIf (totalOut g 0 (removes g k p) (headOf p)) 12 none))
 
 unfoldable pub unbuffered : Geometry → ℕ → List ℕ → List ℕ
 unbuffered g k p = within (bufferAt g (pageOf g k)) (g .page) (without k) p
@@ -42,4 +47,4 @@ listedWith none g k p = p
 
 -- the partition after the del
 unfoldable pub deleted : Geometry → ℕ → List ℕ → List ℕ
-deleted g k p = cond (isListed g k p) p (listedWith (stampFor g k p) g k (unbuffered g k p))
+deleted g k p = cond (isListed g k p) p (totalled 0 (removes g k p) (listedWith (stampFor g k p) g k (unbuffered g k p)))

@@ -1,4 +1,5 @@
 -- "flush of partition t: batch F + 1 is written whole, its pages being the buffer pages with that flush number; no other flash byte changes. The slot's filter is made new. List entries stamped F + 1 − K are removed. The buffer is emptied as by format and F rises by 1."
+-- Document 02: "A flush that drops a batch first reads the heads of that batch's Q pages in order."
 use Prim.Native.Nat.{ℕ, zero, suc, _+_, _-_}
 use mathlib.Core.Bool.{Bool, not}
 use mathlib.Core.List.{List}
@@ -10,9 +11,10 @@ use Rattle.model.specs.Geometry.{partitions, listAt, listSize, filterAt,
 use Rattle.model.specs.Page.{countOf, numbered}
 use Rattle.model.specs.DeleteList.{expired, unexpired}
 use Rattle.model.specs.Filter.{filterFor}
-use Rattle.model.specs.Partition.{Head, headOf, flushedHead, unlistedHead, withHead, flushesOf, listedOf, listOf, bufferOf, slot}
+use Rattle.model.specs.Partition.{Head, headOf, flushedHead, unlistedHead, withHead, totalled, flushesOf, listedOf, listOf, bufferOf, slot}
+use Rattle.model.specs.Batch.{failedHead, dropped}
 use Rattle.model.specs.Answers.{Refusal}
-use Rattle.model.specs.Refusals.{refuseIf, headOverfull, somePageOverfull, lastFlush}
+use Rattle.model.specs.Refusals.{refuseIf, refuseHead, headOverfull, somePageOverfull, totalOut, lastFlush}
 use Rattle.model.specs.Format.{emptiedPages}
 use Rattle.model.specs.declared.Geometry.{Geometry}
 
@@ -20,14 +22,20 @@ use Rattle.model.specs.declared.Geometry.{Geometry}
 abbrev pub inUse : Geometry → List ℕ → Bool
 inUse g p = anyFrom (g .pages) 0 (λ q. not (eqb (countOf (bufferOf g p q)) 0))
 
--- 4, 12, 15, 16, for partition t with the bytes p
-unfoldable pub flushChecks : Geometry → ℕ → List ℕ → Option Refusal
-flushChecks g t p =
+-- 16, 13, 12: of a flush that is due, in a call that adds so many entries. The heads are read before anything is written.
+unfoldable pub dueChecks : Geometry → ℕ → ℕ → List ℕ → List ℕ → Option Refusal
+dueChecks g t more p f =
+    refuseIf (eqb (flushesOf p) lastFlush) 16
+    (refuseHead (failedHead g t p f)
+    (refuseIf (totalOut g more (dropped g t p f) (headOf p)) 12 none))
+
+-- 4, 12, 15, 16, 13, 12, for partition t with the bytes p, and flash
+unfoldable pub flushChecks : Geometry → ℕ → List ℕ → List ℕ → Option Refusal
+flushChecks g t p f =
     refuseIf (not (ltb t (partitions g))) 4
     (refuseIf (headOverfull g (headOf p)) 12
     (refuseIf (somePageOverfull g p) 12
-    (refuseIf (not (inUse g p)) 15
-    (refuseIf (eqb (flushesOf p) lastFlush) 16 none))))
+    (refuseIf (not (inUse g p)) 15 (dueChecks g t 0 p f))))
 
 -- the filter made new
 unfoldable pub filtered : Geometry → List ℕ → List ℕ
@@ -44,6 +52,10 @@ headAfter g p = unlistedHead (listedOf p - unexpired (g .kept) (flushesOf p) (li
 -- the partition after the flush
 unfoldable pub flushed : Geometry → ℕ → List ℕ → List ℕ
 flushed g t p = withHead (headAfter g p) (emptiedPages g t (g .pages) (delisted g (flushesOf p) (listedOf p) (filtered g p)))
+
+-- and with the total that the call ends with
+unfoldable pub flushIn : Geometry → ℕ → List ℕ → List ℕ → List ℕ
+flushIn g t f p = totalled 0 (dropped g t p f) (flushed g t p)
 
 -- flash with the first q pages of the batch written
 unfoldable pub withBatch : Geometry → ℕ → List ℕ → ℕ → List ℕ → List ℕ

@@ -40,6 +40,10 @@ partitions g = 2 ^ g .parts
 abbrev pub capacity : Geometry → ℕ
 capacity g = g .page / 16 - 1
 
+-- (K + 1) × Q × E: the entries that buffer and live batches have room for
+unfoldable pub mostEntries : Geometry → ℕ
+mostEntries g = (g .kept + 1) * g .pages * capacity g
+
 -- a filter's bytes
 abbrev pub filterSize : Geometry → ℕ
 filterSize g = g .bits / 8

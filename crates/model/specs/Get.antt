@@ -3,12 +3,11 @@ use Prim.Native.Nat.{ℕ, _+_}
 use mathlib.Core.Bool.{cond}
 use mathlib.Core.List.{List, [], _∷_}
 use mathlib.Core.Option.{Option, none, some}
-use Rattle.model.specs.Bytes.{mid}
-use Rattle.model.specs.Geometry.{slotPageAt}
 use Rattle.model.specs.Keys.{partitionOf, pageOf}
 use Rattle.model.specs.Page.{valueAt, searched, expected}
 use Rattle.model.specs.DeleteList.{listedAt}
-use Rattle.model.specs.Partition.{listedOf, listOf, bufferOf, slot, passing}
+use Rattle.model.specs.Partition.{listedOf, listOf, bufferOf, passing}
+use Rattle.model.specs.Batch.{batchPage}
 use Rattle.model.specs.Answers.{Refusal, Answer, found, absent, refused, tally, Place, buffer, batch}
 use Rattle.model.specs.Refusals.{refuseIf, keyOverfull}
 use Rattle.model.specs.declared.Geometry.{Geometry}
@@ -16,10 +15,6 @@ use Rattle.model.specs.declared.Geometry.{Geometry}
 -- 12, for the key's partition with the bytes p
 unfoldable pub getChecks : Geometry → ℕ → List ℕ → Option Refusal
 getChecks g k p = refuseIf (keyOverfull g k p) 12 none
-
--- page q of batch n of partition t
-abbrev pub batchPage : Geometry → ℕ → List ℕ → ℕ → ℕ → List ℕ
-batchPage g t f n q = mid (slotPageAt g t (slot g n) q) (g .page) f
 
 -- what a search of a page answers, and otherwise
 abbrev pub hitIn : List ℕ → ℕ → Place → Option ℕ → Answer → Answer

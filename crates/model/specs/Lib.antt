@@ -8,6 +8,7 @@ pub mod Page
 pub mod DeleteList
 pub mod Filter
 pub mod Partition
+pub mod Batch
 pub mod Answers
 pub mod Refusals
 pub mod Format
@@ -16,6 +17,7 @@ pub mod Put
 pub mod Get
 pub mod Del
 pub mod View
+pub mod Count
 pub mod Calls
 pub mod Text
 pub mod Session

@@ -1,12 +1,13 @@
 -- "A page: count 2, page number 2, partition 2, zero 2, flush number 4, zero 4, then E entries, used ones first, the rest zero."
 -- An entry has 8 key and 8 value bytes. Record 0 of a page is its head, so its used entries are the records 1 to count.
 use Prim.Native.Nat.{ℕ, _+_, _-_, _*_}
-use mathlib.Core.Bool.{Bool, _&&_}
+use mathlib.Core.Bool.{Bool, cond, _&&_}
 use mathlib.Core.List.{List}
 use mathlib.Core.Option.{Option, none, some}
 use lib.Dec.{eqb, leb}
 use lib.ListN.{length}
 use Rattle.model.specs.Bytes.{word, write, zeros}
+use Rattle.model.specs.Search.{isSome}
 use Rattle.model.specs.Records.{firstRecord, closedUp}
 use Rattle.model.specs.Geometry.{capacity}
 use Rattle.model.specs.declared.Geometry.{Geometry}
@@ -38,6 +39,10 @@ storedAt none k v p = appended k v p
 unfoldable pub stored : ℕ → ℕ → List ℕ → List ℕ
 stored k v p = storedAt (searched k p) k v p
 
+-- the entries that this adds: 1 for an append
+unfoldable pub added : ℕ → List ℕ → ℕ
+added k p = cond (isSome (searched k p)) 0 1
+
 -- The key's first entry leaves the page, later used ones moving down.
 abbrev pub removedAt : Option ℕ → List ℕ → List ℕ
 removedAt (some i) p = removed i p
@@ -45,6 +50,10 @@ removedAt none p = p
 
 unfoldable pub without : ℕ → List ℕ → List ℕ
 without k p = removedAt (searched k p) p
+
+-- the entries that this takes off: 1 for a key that has one
+unfoldable pub taken : ℕ → List ℕ → ℕ
+taken k p = cond (isSome (searched k p)) 1 0
 
 -- zero but for the page number and the partition
 unfoldable pub emptied : ℕ → ℕ → List ℕ → List ℕ

@@ -9,35 +9,48 @@ use Rattle.model.specs.Keys.{mixed}
 use Rattle.model.specs.Filter.{isSet, passes}
 use Rattle.model.specs.declared.Geometry.{Geometry}
 
--- F, L and 8 bytes that the base carries along
+-- F, L, the total of the partition's entries, and 4 bytes that are carried along
+-- Document 02: "Head bytes 8 to 11 hold the total", of "a partition's entries, buffer and live batches together".
 pub record Head : Type 0 where
   pub flushes : ℕ
   pub listed : ℕ
+  pub total : ℕ
   pub rest : ℕ
 
 -- one flush more
 abbrev pub flushedHead : Head → Head
-flushedHead h = record { flushes = h .flushes + 1; listed = h .listed; rest = h .rest }
+flushedHead h = record { flushes = h .flushes + 1; listed = h .listed; total = h .total; rest = h .rest }
 
 -- one listed key more
 abbrev pub listedHead : Head → Head
-listedHead h = record { flushes = h .flushes; listed = h .listed + 1; rest = h .rest }
+listedHead h = record { flushes = h .flushes; listed = h .listed + 1; total = h .total; rest = h .rest }
 
 -- n listed keys less
 abbrev pub unlistedHead : ℕ → Head → Head
-unlistedHead n h = record { flushes = h .flushes; listed = h .listed - n; rest = h .rest }
+unlistedHead n h = record { flushes = h .flushes; listed = h .listed - n; total = h .total; rest = h .rest }
+
+-- so many entries more, and so many less
+abbrev pub totalledHead : ℕ → ℕ → Head → Head
+totalledHead more less h = record { flushes = h .flushes; listed = h .listed; total = h .total + more - less; rest = h .rest }
 
 abbrev pub headOf : List ℕ → Head
-headOf p = record { flushes = word 4 p 0; listed = word 4 p 4; rest = word 8 p 8 }
+headOf p = record { flushes = word 4 p 0; listed = word 4 p 4; total = word 4 p 8; rest = word 4 p 12 }
 
 unfoldable pub withHead : Head → List ℕ → List ℕ
-withHead h p = write 8 (h .rest) 8 (write 4 (h .listed) 4 (write 4 (h .flushes) 0 p))
+withHead h p = write 4 (h .rest) 12 (write 4 (h .total) 8 (write 4 (h .listed) 4 (write 4 (h .flushes) 0 p)))
+
+-- the total is kept by differences
+unfoldable pub totalled : ℕ → ℕ → List ℕ → List ℕ
+totalled more less p = withHead (totalledHead more less (headOf p)) p
 
 abbrev pub flushesOf : List ℕ → ℕ
 flushesOf p = headOf p .flushes
 
 abbrev pub listedOf : List ℕ → ℕ
 listedOf p = headOf p .listed
+
+abbrev pub totalOf : List ℕ → ℕ
+totalOf p = headOf p .total
 
 abbrev pub partition : Geometry → ℕ → List ℕ → List ℕ
 partition g t m = mid (partitionAt g t) (stride g) m

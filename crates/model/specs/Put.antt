@@ -9,12 +9,13 @@ use Rattle.model.specs.Bytes.{within}
 use Rattle.model.specs.Search.{isSome}
 use Rattle.model.specs.Geometry.{capacity, listAt, listSize, bufferAt}
 use Rattle.model.specs.Keys.{partitionOf, pageOf}
-use Rattle.model.specs.Page.{countOf, searched, stored}
+use Rattle.model.specs.Page.{countOf, searched, stored, added}
 use Rattle.model.specs.DeleteList.{listedAt, struck}
-use Rattle.model.specs.Partition.{headOf, unlistedHead, withHead, flushesOf, listedOf, listOf, bufferOf}
+use Rattle.model.specs.Partition.{headOf, unlistedHead, withHead, totalled, listedOf, listOf, bufferOf}
+use Rattle.model.specs.Batch.{dropped}
 use Rattle.model.specs.Answers.{Refusal}
-use Rattle.model.specs.Refusals.{refuseIf, keyOverfull, somePageOverfull, lastFlush}
-use Rattle.model.specs.Flush.{flushed}
+use Rattle.model.specs.Refusals.{refuseIf, keyOverfull, somePageOverfull, totalOut}
+use Rattle.model.specs.Flush.{dueChecks, flushed}
 use Rattle.model.specs.declared.Geometry.{Geometry}
 
 -- 21: the value is no position
@@ -25,13 +26,21 @@ noPosition v = eqb v 0
 unfoldable pub due : Geometry → ℕ → List ℕ → Bool
 due g k p = not (isSome (searched k (bufferOf g p (pageOf g k)))) && eqb (countOf (bufferOf g p (pageOf g k))) (capacity g)
 
--- 21, 12, 16, for the key's partition with the bytes p
-unfoldable pub putChecks : Geometry → ℕ → ℕ → List ℕ → Option Refusal
-putChecks g k v p =
+-- the entries that a put adds to the total, and those that its flush takes off
+unfoldable pub appends : Geometry → ℕ → List ℕ → ℕ
+appends g k p = added k (bufferOf g p (pageOf g k))
+
+unfoldable pub putDrops : Geometry → ℕ → List ℕ → List ℕ → ℕ
+putDrops g k p f = cond (due g k p) (dropped g (partitionOf g k) p f) 0
+
+-- 21, 12, then 12, 16, 13, 12 where a flush is due, and otherwise 12: for the key's partition with the bytes p, and flash
+unfoldable pub putChecks : Geometry → ℕ → ℕ → List ℕ → List ℕ → Option Refusal
+putChecks g k v p f =
     refuseIf (noPosition v) 21
     (refuseIf (keyOverfull g k p) 12
-    (refuseIf (due g k p && somePageOverfull g p) 12
-    (refuseIf (due g k p && eqb (flushesOf p) lastFlush) 16 none)))
+    (cond (due g k p)
+    (refuseIf (somePageOverfull g p) 12 (dueChecks g (partitionOf g k) 1 p f))
+    (refuseIf (totalOut g (appends g k p) 0 (headOf p)) 12 none)))
 
 -- the list without entry i, or as it is
 abbrev pub unlistedAt : Option ℕ → Geometry → List ℕ → List ℕ
@@ -45,5 +54,5 @@ unfoldable pub buffered : Geometry → ℕ → ℕ → List ℕ → List ℕ
 buffered g k v p = within (bufferAt g (pageOf g k)) (g .page) (stored k v) p
 
 -- the partition after the put
-unfoldable pub putIn : Geometry → ℕ → ℕ → List ℕ → List ℕ
-putIn g k v p = unlisted g k (buffered g k v (cond (due g k p) (flushed g (partitionOf g k) p) p))
+unfoldable pub putIn : Geometry → ℕ → ℕ → List ℕ → List ℕ → List ℕ
+putIn g k v f p = totalled (appends g k p) (putDrops g k p f) (unlisted g k (buffered g k v (cond (due g k p) (flushed g (partitionOf g k) p) p)))

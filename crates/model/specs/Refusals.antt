@@ -1,13 +1,13 @@
 -- "Refusals that come from the input", "Refusals that come from the state": those that more than one call checks.
--- Each call's list of checks stands with the call. 13 is found as pages are read, and stands with the answers.
-use Prim.Native.Nat.{ℕ}
+-- Each call's list of checks stands with the call. The 13 of get and view is found as pages are read, and stands with the answers.
+use Prim.Native.Nat.{ℕ, _+_, _-_}
 use mathlib.Core.Bool.{Bool, true, false, not, _||_}
 use mathlib.Core.List.{List}
-use mathlib.Core.Option.{Option, some}
+use mathlib.Core.Option.{Option, none, some}
 use lib.Dec.{eqb, ltb}
 use lib.ListN.{length}
 use Rattle.model.specs.Search.{anyFrom}
-use Rattle.model.specs.Geometry.{allowed, capacity, memoryNeed, flashNeed}
+use Rattle.model.specs.Geometry.{allowed, capacity, mostEntries, memoryNeed, flashNeed}
 use Rattle.model.specs.Opening.{openingSize, geometryOf, eighth}
 use Rattle.model.specs.Keys.{pageOf}
 use Rattle.model.specs.Page.{countOf}
@@ -20,6 +20,11 @@ abbrev pub refuseIf : Bool → ℕ → Option Refusal → Option Refusal
 refuseIf true n later = some (unread n)
 refuseIf false n later = later
 
+-- 13 where the head of page q, read after those before it, is not the one expected; it counts the heads read, with the failed one
+abbrev pub refuseHead : Option ℕ → Option Refusal → Option Refusal
+refuseHead (some q) later = some (record { number = 13; reads = q + 1 })
+refuseHead none later = later
+
 -- 2 (below 32), 11, 2, 3: every call but format
 unfoldable pub unopened : Areas → Option Refusal → Option Refusal
 unopened a later =
@@ -28,9 +33,9 @@ unopened a later =
     (refuseIf (ltb (length (a .memory)) (memoryNeed (geometryOf (a .memory)))) 2
     (refuseIf (ltb (length (a .flash)) (flashNeed (geometryOf (a .memory)))) 3 later)))
 
--- 12: L above D
+-- 12: L above D, or a total above (K + 1) × Q × E
 unfoldable pub headOverfull : Geometry → Head → Bool
-headOverfull g h = ltb (g .list) (h .listed)
+headOverfull g h = ltb (g .list) (h .listed) || ltb (mostEntries g) (h .total)
 
 -- 12: buffer page q counts above E
 unfoldable pub pageOverfull : Geometry → List ℕ → ℕ → Bool
@@ -43,6 +48,10 @@ keyOverfull g k p = headOverfull g (headOf p) || pageOverfull g p (pageOf g k)
 -- 12: some buffer page does
 unfoldable pub somePageOverfull : Geometry → List ℕ → Bool
 somePageOverfull g p = anyFrom (g .pages) 0 (pageOverfull g p)
+
+-- 12: with so many entries more and so many less the call would end with a total below 0, or past (K + 1) × Q × E
+unfoldable pub totalOut : Geometry → ℕ → ℕ → Head → Bool
+totalOut g more less h = ltb (h .total + more) less || ltb (mostEntries g) (h .total + more - less)
 
 -- 16: no flush number is left
 abbrev pub lastFlush : ℕ

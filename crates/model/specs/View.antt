@@ -7,9 +7,9 @@ use lib.Dec.{eqb, ltb}
 use Rattle.model.specs.Geometry.{partitions, partitionAt, bufferAt, slotPageAt}
 use Rattle.model.specs.Page.{expected}
 use Rattle.model.specs.Partition.{headOf, slot, isLive}
+use Rattle.model.specs.Batch.{batchPage}
 use Rattle.model.specs.Answers.{Refusal, Answer, shown, refused, inMemory, inFlash}
 use Rattle.model.specs.Refusals.{refuseIf, headOverfull, pageOverfull}
-use Rattle.model.specs.Get.{batchPage}
 use Rattle.model.specs.declared.Geometry.{Geometry}
 
 -- 4, 12, 17, for partition t with the bytes p

@@ -13,7 +13,7 @@ use Rattle.model.specs.Geometry.{slotPageAt}
 use Rattle.model.specs.Opening.{geometryOf}
 use Rattle.model.specs.Page.{expected}
 use Rattle.model.specs.Partition.{slot}
-use Rattle.model.specs.Get.{batchPage}
+use Rattle.model.specs.Batch.{batchPage}
 use Rattle.model.specs.View as view
 use Rattle.model.specs.Calls.{Call, checks, result, reply}
 use Rattle.model.proofs.Calls.{viewed-page, result-view, reply-refused, reply-accepted}

@@ -1,4 +1,4 @@
-// The six calls for C: numbers, and areas as pointer and length. include/mortxizal.h declares them.
+// The seven calls for C: numbers, and areas as pointer and length. include/mortxizal.h declares them.
 ghost use Rattle.model.specs.Geometry.{geometry};
 ghost use Rattle.model.specs.Calls.{Call};
 ghost use Rattle.mortxizal.specs.Exports.{Exports};
@@ -73,4 +73,11 @@ pub extern "C" fn mx_view(
     ensures { λ r. ⌜ Exports (Call.view partition page flush) (now (memory .entry)) (now (flash .entry)) r (now (memory .entry)) (now (flash .entry)) ⌝ }
 {
     of_viewed(index::view_outcome(memory, flash, partition, page, flush))
+}
+
+#[no_mangle]
+pub extern "C" fn mx_count(memory: &[u8], flash: &[u8], partition: u32) -> MxAnswer
+    ensures { λ r. ⌜ Exports (Call.count partition) (now (memory .entry)) (now (flash .entry)) r (now (memory .entry)) (now (flash .entry)) ⌝ }
+{
+    of_written(index::count(memory, flash, partition))
 }

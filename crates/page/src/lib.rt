@@ -3,7 +3,7 @@ ghost use mathlib.Core.Path.{_≡_};
 ghost use Prim.Native.Nat.{_+_, _*_, _≤_};
 ghost use lib.ListN.{length};
 ghost use mathlib.Core.Option.{none};
-ghost use Rattle.model.specs.Page.{countOf, valueAt, searched, appended, replaced, removed, stored, without, emptied};
+ghost use Rattle.model.specs.Page.{countOf, valueAt, searched, appended, replaced, removed, stored, added, without, taken, emptied};
 ghost use Rattle.records.specs.Found.{foundAt};
 use records::Found;
 
@@ -59,27 +59,36 @@ pub fn remove(page: &mut [u8], i: usize)
     words::write_u16(page, 0, n - 1);
 }
 
-// The key gets the value: in its first place, or in a new one.
-pub fn store(page: &mut [u8], key: u64, value: u64)
+// The key gets the value: in its first place, or in a new one. Tells how many entries that adds.
+pub fn store(page: &mut [u8], key: u64, value: u64) -> u32
     requires { ⌜ 16 + 16 * countOf (now page) ≤ length (now page) ⌝ }
     requires { ⌜ (searched key (now page) ≡ none → 32 + 16 * countOf (now page) ≤ length (now page)) ⌝ }
     requires { ⌜ length (now page) ≤ 4096 ⌝ }
-    ensures { λ _. ⌜ now (page .exit) ≡ stored key value (now (page .entry)) ⌝ }
+    ensures { λ r. ⌜ (now (page .exit) ≡ stored key value (now (page .entry))) × (r ≡ added key (now (page .entry))) ⌝ }
 {
     match search(page, key) {
-        Found::At(i) => replace(page, i, value),
-        Found::Nothing => append(page, key, value),
+        Found::At(i) => {
+            replace(page, i, value);
+            0
+        }
+        Found::Nothing => {
+            append(page, key, value);
+            1
+        }
     }
 }
 
-// The key's first entry leaves, if it has one.
-pub fn drop_key(page: &mut [u8], key: u64)
+// The key's first entry leaves, if it has one. Tells how many entries that takes off.
+pub fn drop_key(page: &mut [u8], key: u64) -> u32
     requires { ⌜ 16 + 16 * countOf (now page) ≤ length (now page) ⌝ }
-    ensures { λ _. ⌜ now (page .exit) ≡ without key (now (page .entry)) ⌝ }
+    ensures { λ r. ⌜ (now (page .exit) ≡ without key (now (page .entry))) × (r ≡ taken key (now (page .entry))) ⌝ }
 {
     match search(page, key) {
-        Found::At(i) => remove(page, i),
-        Found::Nothing => {}
+        Found::At(i) => {
+            remove(page, i);
+            1
+        }
+        Found::Nothing => 0,
     }
 }
 

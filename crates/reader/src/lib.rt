@@ -16,5 +16,6 @@ pub enum Form {
     Get(u64),
     Del(u64),
     Flush(u32),
+    Count(u32),
     Bad,
 }

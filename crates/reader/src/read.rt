@@ -4,7 +4,7 @@ ghost use mathlib.Core.Option.{Option};
 ghost use lib.ListN.{drop};
 ghost use Rattle.model.specs.Text.{past};
 ghost use Rattle.model.specs.Calls.{Call};
-ghost use Rattle.model.specs.Session.{then, atEnd, putLine, getLine, delLine, flushLine, formatLine, callOf};
+ghost use Rattle.model.specs.Session.{then, atEnd, putLine, getLine, delLine, flushLine, countLine, formatLine, callOf};
 ghost use Rattle.reader.specs.Forms.{formCall};
 ghost use Rattle.reader.specs.Threes.{ThreeFigures, threeIn, threePast};
 use crate::Form;
@@ -70,6 +70,15 @@ fn read_flush(line: &[u8]) -> Form
         return Form::Bad;
     };
     ending(line, at, b")", Form::Flush(partition))
+}
+
+fn read_count(line: &[u8]) -> Form
+    ensures { λ r. ⌜ formCall r ≡ countLine (now (line .entry)) ⌝ }
+{
+    let Narrow::Read(partition, at) = narrow_past(line, 0, b"(count ") else {
+        return Form::Bad;
+    };
+    ending(line, at, b")", Form::Count(partition))
 }
 
 // Three numbers, each behind a text of its own.
@@ -141,6 +150,10 @@ pub fn read_line(line: &[u8]) -> Form
         return form;
     };
     let form = read_flush(line);
+    let Form::Bad = form else {
+        return form;
+    };
+    let form = read_count(line);
     let Form::Bad = form else {
         return form;
     };

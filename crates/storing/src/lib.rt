@@ -1,14 +1,14 @@
 // A key stored in its partition: it has the value, and is listed no more.
 ghost use mathlib.Core.Bool.{true, false};
 ghost use mathlib.Core.Path.{_≡_};
-ghost use Prim.Native.Nat.{_≤_};
+ghost use Prim.Native.Nat.{_+_, _≤_};
 ghost use lib.ListN.{length};
 ghost use Rattle.model.specs.Bytes.{within};
 ghost use Rattle.model.specs.Geometry.{allowed, stride, partitionAt, memoryNeed};
 ghost use Rattle.model.specs.Keys.{partitionOf};
-ghost use Rattle.model.specs.Partition.{headOf, partition};
+ghost use Rattle.model.specs.Partition.{headOf, totalled, totalOf, partition};
 ghost use Rattle.model.specs.Refusals.{headOverfull};
-ghost use Rattle.model.specs.Put.{unlisted, buffered};
+ghost use Rattle.model.specs.Put.{appends, unlisted, buffered};
 ghost use Rattle.partition.specs.Ready.{Whole, Storable};
 use head::Head;
 use model::Geometry;
@@ -33,24 +33,27 @@ fn unlist(part: &mut [u8], g: Geometry, key: u64)
     }
 }
 
-// The key has the value, and is listed no more.
-fn store_unlisted(part: &mut [u8], g: Geometry, key: u64, value: u64)
+// The key has the value, and is listed no more; the total has the entry more, where it is new, and `less` entries less.
+fn store_unlisted(part: &mut [u8], g: Geometry, key: u64, value: u64, less: u32)
     requires { ⌜ Whole g (now part) ⌝ }
     requires { ⌜ Storable g key (now part) ⌝ }
-    ensures { λ _. ⌜ now (part .exit) ≡ unlisted g key (buffered g key value (now (part .entry))) ⌝ }
+    requires { ⌜ less ≤ totalOf (now part) + appends g key (now part) ⌝ }
+    ensures { λ _. ⌜ now (part .exit) ≡ totalled (appends g key (now (part .entry))) less (unlisted g key (buffered g key value (now (part .entry)))) ⌝ }
 {
-    buffer::store(part, g, key, value);
+    let more = buffer::store(part, g, key, value);
     unlist(part, g, key);
+    head::change_total(part, more, less);
 }
 
 // The same in the key's partition of memory.
-pub fn store_unlisted_at(memory: &mut [u8], g: Geometry, key: u64, value: u64)
+pub fn store_unlisted_at(memory: &mut [u8], g: Geometry, key: u64, value: u64, less: u32)
     requires { ⌜ allowed g ≡ true ⌝ }
     requires { ⌜ memoryNeed g ≤ length (now memory) ⌝ }
     requires { ⌜ Storable g key (partition g (partitionOf g key) (now memory)) ⌝ }
-    ensures { λ _. ⌜ now (memory .exit) ≡ within (partitionAt g (partitionOf g key)) (stride g) (λ p. unlisted g key (buffered g key value p)) (now (memory .entry)) ⌝ }
+    requires { ⌜ less ≤ totalOf (partition g (partitionOf g key) (now memory)) + appends g key (partition g (partitionOf g key) (now memory)) ⌝ }
+    ensures { λ _. ⌜ now (memory .exit) ≡ within (partitionAt g (partitionOf g key)) (stride g) (λ p. totalled (appends g key p) less (unlisted g key (buffered g key value p))) (now (memory .entry)) ⌝ }
 {
     let a = keys::key_partition_at(g, key);
     let e = a + geometry::partition_size(g);
-    store_unlisted(&mut memory[a..e], g, key, value);
+    store_unlisted(&mut memory[a..e], g, key, value, less);
 }

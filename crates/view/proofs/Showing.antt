@@ -11,7 +11,7 @@ use Rattle.model.specs.Geometry.{allowed, partitions, memoryNeed, slotPageAt, f
 use Rattle.model.specs.Page.{expected}
 use Rattle.model.specs.Partition.{slot}
 use Rattle.model.specs.Answers.{Answer, done, found, absent, shown, refused, inMemory, inFlash}
-use Rattle.model.specs.Get.{batchPage}
+use Rattle.model.specs.Batch.{batchPage}
 use Rattle.model.specs.View.{pageShown, viewed}
 use Rattle.model.proofs.Sizes.{partition-fits, buffer-fits, slot-lt, slot-page-fits}
 use Rattle.model.proofs.Calls.{viewed-page}

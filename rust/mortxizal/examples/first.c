@@ -54,6 +54,16 @@ static mx_answer del(uint64_t key)
     return mx_del(memory, sizeof memory, flash, sizeof flash, key);
 }
 
+static void show_count(void)
+{
+    mx_answer a = mx_count(memory, sizeof memory, flash, sizeof flash, 0);
+    if (a.status == MX_DONE) {
+        printf("count: entries %" PRIu32 "\n", a.number);
+    } else {
+        show("count", a);
+    }
+}
+
 static void show_page(uint32_t flush)
 {
     mx_answer a = mx_view(memory, sizeof memory, flash, sizeof flash, 0, 0, flush);
@@ -80,6 +90,7 @@ int main(void)
     show("del 2", del(2));
     show("get 2", get(2));
     show("del 3", del(3)); /* the list has one place, which key 2 has */
+    show_count(); /* three in the batch, where key 2 still is, and one in the buffer */
     show_page(0);
     show_page(1);
     show_page(2);

@@ -36,6 +36,10 @@ fn lookup(found: Result<Lookup, Refused>) -> String {
     }))
 }
 
+fn entries(count: Result<u32, Refused>) -> String {
+    tell(count.map(|entries| format!("entries {entries}")))
+}
+
 fn page(page: Result<&[u8], Refused>) -> String {
     match page {
         Ok(page) => {
@@ -79,6 +83,8 @@ pub fn run(output: &mut impl Write) -> Result<(), Box<dyn std::error::Error>> {
     writeln!(output, "get 2: {}", lookup(index.get(2)))?;
     // The list has one place, which key 2 has.
     writeln!(output, "del 3: {}", pages(index.del(3).map(|()| 0)))?;
+    // Three in the batch, where key 2 still is, and one in the buffer.
+    writeln!(output, "count: {}", entries(index.count(0)))?;
     for flush in 0..3 {
         writeln!(output, "view {flush}: {}", page(index.view(0, 0, flush)))?;
     }

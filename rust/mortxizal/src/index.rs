@@ -129,7 +129,9 @@ impl<'a> Index<'a> {
     ///
     /// A flush makes the buffer a batch. Where [`Geometry::kept`] batches are
     /// live already the oldest one goes, and with it its keys that were not put
-    /// again since.
+    /// again since. The heads of its pages are read first, to take its entries
+    /// off the [count](Index::count): where one is not the head expected there
+    /// the put is refused with [`BatchPage`](Refused::BatchPage).
     ///
     /// Every key is allowed, and every value but 0: the sound store has nothing
     /// at position 0, and from a format on no get shows it.
@@ -192,10 +194,38 @@ impl<'a> Index<'a> {
     }
 
     /// Makes the partition's buffer a batch in flash: the pages written, which
-    /// are [`Geometry::pages`].
+    /// are [`Geometry::pages`]. Where the oldest batch goes for it, its pages'
+    /// heads are read first, as in a [put](Index::put).
     #[inline]
     pub fn flush(&mut self, partition: u32) -> Result<u32, Refused> {
         let answer = raw::flush(self.memory, self.flash, partition);
+        Ok(accepted(answer)?.number)
+    }
+
+    /// The entries of the partition's buffer and live batches together, which
+    /// its head holds: no page is read. A key counts once in each of them that
+    /// has it, a deleted key too as long as the batch that has it is live.
+    ///
+    /// A table that was filled before totals were kept counts from 0 and has to
+    /// be formatted anew: nothing in its bytes tells that its counts are wrong.
+    ///
+    /// ```
+    /// # use mortxizal::{Geometry, Index, Refused};
+    /// # let geometry = Geometry { parts: 1, ..Geometry::default() };
+    /// # let mut memory = vec![0; geometry.memory_need()?];
+    /// # let mut flash = vec![0; geometry.flash_need()?];
+    /// # let mut index = Index::format(&mut memory, &mut flash, geometry)?;
+    /// index.put(7, 70)?;
+    /// index.put(8, 80)?;
+    /// assert_eq!(index.count(0)?, 2);
+    /// index.del(7)?;
+    /// assert_eq!(index.count(0)?, 1);
+    /// assert_eq!(index.count(2), Err(Refused::OutOfRange));
+    /// # Ok::<(), mortxizal::Refused>(())
+    /// ```
+    #[inline]
+    pub fn count(&self, partition: u32) -> Result<u32, Refused> {
+        let answer = raw::count(self.memory, self.flash, partition);
         Ok(accepted(answer)?.number)
     }
 

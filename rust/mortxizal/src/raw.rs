@@ -1,4 +1,4 @@
-//! The six calls as the C interface gives them: one struct for every answer.
+//! The calls as the C interface gives them: one struct for every answer.
 //!
 //! [`Index`](crate::Index) is the convenient way to the same calls. These
 //! functions suit a caller that holds the areas in some other way, for example
@@ -17,6 +17,7 @@ pub struct Answer {
     /// [`DONE`], [`FOUND`], [`NONE`] or [`REFUSED`].
     pub status: u32,
     /// Done: pages written. Refused: the refusal's number. View: bytes of the page.
+    /// Count: entries.
     pub number: u32,
     /// Flash pages read.
     pub reads: u32,
@@ -26,7 +27,7 @@ pub struct Answer {
     pub value: u64,
 }
 
-/// The status of an accepted format, put, del, flush or view.
+/// The status of an accepted format, put, del, flush, view or count.
 pub const DONE: u32 = 0;
 /// The status of a get that found the key.
 pub const FOUND: u32 = 1;
@@ -90,6 +91,13 @@ mod c {
             page: u32,
             flush: u32,
         ) -> Answer;
+        pub fn mx_count(
+            memory: *const u8,
+            memory_len: usize,
+            flash: *const u8,
+            flash_len: usize,
+            partition: u32,
+        ) -> Answer;
     }
 }
 
@@ -152,4 +160,12 @@ pub fn view(memory: &[u8], flash: &[u8], partition: u32, page: u32, flush: u32) 
     let (m, f) = (memory.as_ptr(), flash.as_ptr());
     // SAFETY: the pointers and lengths are those of two slices.
     unsafe { c::mx_view(m, memory.len(), f, flash.len(), partition, page, flush) }
+}
+
+/// Tells how many entries the partition holds.
+#[inline]
+pub fn count(memory: &[u8], flash: &[u8], partition: u32) -> Answer {
+    let (m, f) = (memory.as_ptr(), flash.as_ptr());
+    // SAFETY: the pointers and lengths are those of two slices.
+    unsafe { c::mx_count(m, memory.len(), f, flash.len(), partition) }
 }

@@ -24,16 +24,19 @@ pub enum Refused {
     ShortMemory,
     /// 3: flash is shorter than the table needs.
     ShortFlash,
-    /// 4: there is no such partition (flush, view) or page (view).
+    /// 4: there is no such partition (flush, view, count) or page (view).
     OutOfRange,
     /// 11: memory does not open with an allowed geometry: it was never
     /// formatted, or it is damaged. Every call but format gives it.
     Opening,
-    /// 12: the partition lists more keys than it has places for, or a buffer
-    /// page that the call reads counts more entries than fit: memory is damaged.
+    /// 12: the partition lists more keys than it has places for, a buffer page
+    /// that the call reads counts more entries than fit, or the partition's total
+    /// is above what fits, or would end above that or below 0 (put, del, flush):
+    /// memory is damaged, or was filled before totals were kept and has to be
+    /// formatted anew.
     Overfull,
-    /// 13: a page read from flash is not the one expected there (get, view):
-    /// flash is damaged, or memory is.
+    /// 13: a page read from flash is not the one expected there (get, view, and
+    /// put and flush where a batch goes): flash is damaged, or memory is.
     BatchPage {
         /// The flash pages read, with this one.
         reads: u32,
@@ -112,7 +115,9 @@ impl fmt::Display for Refused {
             Refused::ShortFlash => "flash is shorter than the table needs",
             Refused::OutOfRange => "there is no such partition or page",
             Refused::Opening => "memory holds no table",
-            Refused::Overfull => "memory is damaged: a list or a buffer page counts more than fits",
+            Refused::Overfull => {
+                "memory is damaged: a list, a buffer page or the total counts wrongly"
+            }
             Refused::BatchPage { .. } => "a page of flash is not the one expected there",
             Refused::ListFull => "the list of deleted keys is full",
             Refused::BufferEmpty => "there is nothing to flush",

@@ -54,6 +54,82 @@ fn worked_session() {
     assert_eq!(index.get(0), found(40, 0, Place::Buffer));
     assert_eq!(index.flush(0), Ok(1));
     assert_eq!(index.get(0), found(40, 1, Place::Batch(2)));
+    assert_eq!(index.count(0), Ok(4));
+}
+
+#[test]
+fn counts_of_a_partition() {
+    let (mut memory, mut flash) = areas(G);
+    let mut index = Index::format(&mut memory, &mut flash, G).unwrap();
+    assert_eq!(index.count(0), Ok(0));
+    for key in 1..=3 {
+        index.put(key, 1).unwrap();
+    }
+    index.put(3, 2).unwrap();
+    assert_eq!(index.count(0), Ok(3));
+    index.del(3).unwrap();
+    assert_eq!(index.count(0), Ok(2));
+    // Two entries, then one, then one: the third flush drops the two.
+    for (key, count) in [(1, 2), (4, 3), (4, 2)] {
+        index.put(key, 3).unwrap();
+        assert_eq!(index.flush(0), Ok(1));
+        assert_eq!(index.count(0), Ok(count));
+    }
+    assert_eq!(index.count(1), Err(Refused::OutOfRange));
+    let answer = raw::count(index.memory(), index.flash(), 0);
+    let told = (answer.status, answer.number, answer.reads);
+    assert_eq!(told, (raw::DONE, 2, 0));
+    assert_eq!((answer.batch, answer.value), (0, 0));
+}
+
+#[test]
+fn a_total_that_cannot_be() {
+    let (mut memory, mut flash) = areas(G);
+    let mut index = Index::format(&mut memory, &mut flash, G).unwrap();
+    index.put(5, 50).unwrap();
+    // The total is in memory's bytes 40 to 43. Nine entries fit the partition.
+    memory[40] = 10;
+    let mut index = Index::attach(&mut memory, &mut flash);
+    assert_eq!(index.count(0), Err(Refused::Overfull));
+    assert_eq!(index.put(5, 50), Err(Refused::Overfull));
+    assert_eq!(index.get(5), Err(Refused::Overfull));
+    assert_eq!(index.del(5), Err(Refused::Overfull));
+    assert_eq!(index.flush(0), Err(Refused::Overfull));
+    assert_eq!(index.view(0, 0, 0), Err(Refused::Overfull));
+    memory[40] = 9;
+    let mut index = Index::attach(&mut memory, &mut flash);
+    assert_eq!(index.count(0), Ok(9));
+    assert_eq!(index.put(6, 60), Err(Refused::Overfull));
+    assert_eq!(index.put(5, 51), Ok(0));
+    memory[40] = 0;
+    let mut index = Index::attach(&mut memory, &mut flash);
+    assert_eq!(index.del(5), Err(Refused::Overfull));
+    assert_eq!(index.del(6), Ok(()));
+    assert_eq!(index.count(0), Ok(0));
+}
+
+#[test]
+fn a_batch_that_goes_is_looked_at() {
+    let g = Geometry { pages: 2, ..G };
+    let (mut memory, mut flash) = areas(g);
+    let mut index = Index::format(&mut memory, &mut flash, g).unwrap();
+    for key in 1..=2 {
+        index.put(key, 1).unwrap();
+        index.flush(0).unwrap();
+    }
+    for key in 3..=5 {
+        assert_eq!(index.put(key, 1), Ok(0));
+    }
+    // Small keys belong to page 0. The second page of batch 1 is damaged.
+    flash[64 + 4] = 1;
+    let mut index = Index::attach(&mut memory, &mut flash);
+    let refused = Refused::BatchPage { reads: 2 };
+    assert_eq!(index.put(6, 1), Err(refused));
+    assert_eq!(index.flush(0), Err(refused));
+    assert_eq!((index.put(5, 2), index.count(0)), (Ok(0), Ok(5)));
+    flash[64 + 4] = 0;
+    let mut index = Index::attach(&mut memory, &mut flash);
+    assert_eq!((index.put(6, 1), index.count(0)), (Ok(2), Ok(5)));
 }
 
 #[test]
@@ -140,6 +216,7 @@ fn areas_of_no_bytes() {
     assert_eq!(index.del(1), Err(short));
     assert_eq!(index.flush(0), Err(short));
     assert_eq!(index.view(0, 0, 0), Err(short));
+    assert_eq!(index.count(0), Err(short));
     assert_eq!(Index::format(&mut [], &mut [], G).unwrap_err(), short);
 }
 

@@ -43,6 +43,11 @@ const BAD: &[&str] = &[
     "(flush)",
     "(flush 4294967296)",
     "(flush 00)",
+    "(count)",
+    "(count 0 0)",
+    "(count 00)",
+    "(count 4294967296)",
+    "(counts 0)",
     "(view 0 0 0)",
     "(format)",
     "(format (parts 0) (page 64) (pages 1) (kept 2) (bits 64) (hashes 3))",
@@ -93,11 +98,11 @@ fn the_longest_forms() {
     assert_eq!(format.len(), 138);
     let put = format!("(put {wide} {wide})");
     assert_eq!(put.len(), 47);
-    let input = format!("{format}\n{FORMAT}\n{put}\n(get {wide})\n(flush {most})\n");
-    assert_eq!(
-        run(input.as_bytes()),
-        format!("(refused 1 0)\n(ok 0)\n(ok 0)\n(found {wide} 0)\n(refused 4 0)\n").as_bytes()
-    );
+    let input =
+        format!("{format}\n{FORMAT}\n{put}\n(get {wide})\n(flush {most})\n(count {most})\n");
+    let output =
+        format!("(refused 1 0)\n(ok 0)\n(ok 0)\n(found {wide} 0)\n(refused 4 0)\n(refused 4 0)\n");
+    assert_eq!(run(input.as_bytes()), output.as_bytes());
     compare(input.as_bytes());
 }
 

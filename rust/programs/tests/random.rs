@@ -61,6 +61,7 @@ impl Rng {
             900..=949 => format!("(flush {})", self.below(5)),
             950..=959 => self.damaged(),
             960..=969 => "x".repeat(self.below(400) as usize),
+            970..=984 => format!("(count {})", self.below(5)),
             _ => format!("(get {})", self.key()),
         }
     }

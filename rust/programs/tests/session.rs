@@ -1,6 +1,7 @@
-//! Whole sessions: document 01's, every refusal, the ends of input and output.
+//! Whole sessions: document 01's, every refusal, counts, the ends of input and output.
 
 use programs::{compare, run, run_to_full_disk};
+use std::fmt::Display;
 
 const INPUT: &[u8] = include_bytes!("../../../crates/relay_session/stdin");
 const OUTPUT: &[u8] = include_bytes!("../../../crates/relay_session/stdout");
@@ -36,6 +37,17 @@ fn empty_lines_are_bad() {
     );
 }
 
+/// The lines of one session are answered so, by both sides.
+fn check<L: Display>(lines: impl IntoIterator<Item = (L, &'static str)>) {
+    let (mut input, mut output) = (String::new(), String::new());
+    for (line, answer) in lines {
+        input += &format!("{line}\n");
+        output += &format!("{answer}\n");
+    }
+    assert_eq!(String::from_utf8(run(input.as_bytes())).unwrap(), output);
+    compare(input.as_bytes());
+}
+
 /// The refusals that a session can come to: its calls leave no damaged page or
 /// count behind, it has no view, and 2^32 flushes are out of reach.
 #[test]
@@ -52,6 +64,7 @@ fn every_refusal() {
         ("(get 1)".into(), "(refused 11 0)"),
         ("(del 1)".into(), "(refused 11 0)"),
         ("(flush 0)".into(), "(refused 11 0)"),
+        ("(count 0)".into(), "(refused 11 0)"),
         (format([9, 64, 1, 2, 64, 3, 1]), "(refused 1 0)"),
         (format([0, 32, 1, 2, 64, 3, 1]), "(refused 1 0)"),
         (format([0, 64, 3, 2, 64, 3, 1]), "(refused 1 0)"),
@@ -66,6 +79,7 @@ fn every_refusal() {
         ("(flush 0)".into(), "(refused 15 0)"),
         ("(flush 1)".into(), "(refused 4 0)"),
         ("(flush 4294967295)".into(), "(refused 4 0)"),
+        ("(count 1)".into(), "(refused 4 0)"),
         ("(put 5 0)".into(), "(refused 21 0)"),
         ("(put 1 10)".into(), "(ok 0)"),
         ("(put 1 0)".into(), "(refused 21 0)"),
@@ -80,16 +94,35 @@ fn every_refusal() {
         ("(get 1)".into(), "(none 0)"),
         ("(get 2)".into(), "(found 20 1)"),
     ];
-    let input: String = lines
-        .iter()
-        .map(|(line, _): &(String, _)| format!("{line}\n"))
-        .collect();
-    let output: String = lines
-        .iter()
-        .map(|(_, answer)| format!("{answer}\n"))
-        .collect();
-    assert_eq!(String::from_utf8(run(input.as_bytes())).unwrap(), output);
-    compare(input.as_bytes());
+    check(lines);
+}
+
+/// Puts, a put in place, a flush by a full page, dels in the buffer and in a
+/// batch, and the flush that drops the first batch.
+#[test]
+fn counts() {
+    let lines = [
+        (FORMAT, "(ok 0)"),
+        ("(count 0)", "(ok 0)"),
+        ("(put 1 10)", "(ok 0)"),
+        ("(put 2 20)", "(ok 0)"),
+        ("(put 2 21)", "(ok 0)"),
+        ("(count 0)", "(ok 2)"),
+        ("(put 3 30)", "(ok 0)"),
+        ("(put 4 40)", "(ok 1)"),
+        ("(put 5 50)", "(ok 0)"),
+        ("(count 0)", "(ok 5)"),
+        ("(del 4)", "(ok 0)"),
+        ("(count 0)", "(ok 4)"),
+        ("(del 1)", "(ok 0)"),
+        ("(count 0)", "(ok 4)"),
+        ("(flush 0)", "(ok 1)"),
+        ("(count 0)", "(ok 4)"),
+        ("(put 6 60)", "(ok 0)"),
+        ("(flush 0)", "(ok 1)"),
+        ("(count 0)", "(ok 2)"),
+    ];
+    check(lines);
 }
 
 /// Short lines with long answers: the room for answers ends before the input does.

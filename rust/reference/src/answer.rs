@@ -13,7 +13,8 @@ pub enum Refusal {
     OutOfRange,
     /// 11: the opening numbers are not allowed, or the eighth is not 0.
     Opening,
-    /// 12: L is above D, or a buffer page that the call reads counts above E.
+    /// 12: L is above D, the total is above (K + 1) × Q × E or would end above
+    /// that or below 0, or a buffer page that the call reads counts above E.
     Overfull,
     /// 13: a flash page read is not the page expected there.
     BatchPage {

@@ -10,30 +10,79 @@ use crate::page::{self, Name};
 use crate::partition::{Head, PartitionMut};
 use crate::record;
 
-/// Flushes a partition whose buffer pages all count at most E.
-///
-/// Refusal 16 if the flush numbers are used up. It comes before any change.
-pub fn write(
+/// A flush that has passed every check.
+pub struct Flush {
+    partition: usize,
+    slot: usize,
+    /// The partition's head after it, but for the keys that leave the list.
+    head: Head,
+}
+
+impl Flush {
+    /// Judges the flush of a partition whose buffer pages all count at most E,
+    /// with so many entries to be appended after it: refusals 16, 13 and, by
+    /// the total that the call ends with, 12.
+    pub fn judge(
+        layout: &Layout,
+        partition: usize,
+        head: Head,
+        flash: &[u8],
+        appended: u32,
+    ) -> Result<Flush, Refusal> {
+        let kept = layout.geometry().kept;
+        let flushes = head.flushes.checked_add(1).ok_or(Refusal::NumbersSpent)?;
+        // The batch that goes lies in the slot that the new one takes.
+        let slot = live::next_slot(head.flushes, kept);
+        let dropped = if head.flushes >= kept {
+            count_batch(layout, partition, slot, flushes - kept, flash)?
+        } else {
+            0
+        };
+        let total = head.total_after(layout, appended, dropped)?;
+        Ok(Flush {
+            partition,
+            slot,
+            head: Head {
+                flushes,
+                total,
+                ..head
+            },
+        })
+    }
+
+    /// Does the flush.
+    pub fn write(self, layout: &Layout, memory: &mut PartitionMut, flash: &mut [u8]) {
+        let number = self.head.flushes;
+        write_pages(layout, self.partition, self.slot, number, memory, flash);
+        // Without wrapping: as long as F + 1 is below K no batch goes, and no stamp.
+        let listed = match number.checked_sub(layout.geometry().kept) {
+            Some(gone) => list::remove_stamped(memory.listed_mut(), gone) as u32,
+            None => self.head.listed,
+        };
+        memory.set_head(Head {
+            listed,
+            ..self.head
+        });
+    }
+}
+
+/// The entries of the batch with this number, by the heads of its pages alone;
+/// refusal 13 at the first page that isn't the one expected there.
+fn count_batch(
     layout: &Layout,
     partition: usize,
-    memory: &mut PartitionMut,
-    flash: &mut [u8],
-) -> Result<(), Refusal> {
-    let flushes = memory.head.flushes;
-    let number = flushes.checked_add(1).ok_or(Refusal::NumbersSpent)?;
-    let kept = layout.geometry().kept;
-    let slot = live::next_slot(flushes, kept);
-    write_pages(layout, partition, slot, number, memory, flash);
-    // Without wrapping: as long as F + 1 is below K no batch goes, and no stamp.
-    let listed = match number.checked_sub(kept) {
-        Some(gone) => list::remove_stamped(memory.listed_mut(), gone) as u32,
-        None => memory.head.listed,
-    };
-    memory.set_head(Head {
-        flushes: number,
-        listed,
-    });
-    Ok(())
+    slot: usize,
+    number: u32,
+    flash: &[u8],
+) -> Result<u32, Refusal> {
+    let batch = &flash[layout.slot_at(partition, slot)..][..layout.batch_bytes()];
+    let mut entries = 0;
+    for (page, bytes) in batch.chunks_exact(layout.page_bytes()).enumerate() {
+        let reads = page as u32 + 1;
+        let used = page::used_of_batch(bytes, Name { partition, page }, number);
+        entries += used.ok_or(Refusal::BatchPage { reads })?.len() as u32;
+    }
+    Ok(entries)
 }
 
 /// Copies every buffer page to the slot, whatever bytes it holds, enters its

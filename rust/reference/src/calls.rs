@@ -1,14 +1,14 @@
-//! The six calls. Each judges its arguments and the areas in the papers' order
+//! The calls. Each judges its arguments and the areas in the papers' order
 //! before it changes a byte.
 
 use crate::answer::{Lookup, Place, Refusal};
-use crate::batch;
+use crate::batch::Flush;
 use crate::geometry::{Geometry, Layout, OPENING_BYTES};
 use crate::key::{self, Bits};
 use crate::list;
 use crate::live;
 use crate::page::{self, Name};
-use crate::partition::{Partition, PartitionMut};
+use crate::partition::{Head, Partition, PartitionMut};
 use crate::record;
 
 /// Makes an empty table of the geometry. Flash only has to be long enough.
@@ -41,6 +41,7 @@ pub fn put(memory: &mut [u8], flash: &mut [u8], key: u64, value: u64) -> Result<
     }
     let name = name_of(&layout, key);
     let mut partition = PartitionMut::cut(&layout, memory, name.partition)?;
+    let head = partition.head;
     let page = partition.page_mut(&layout, name.page);
     let used = page::used(page).ok_or(Refusal::Overfull)?;
     let count = used.len();
@@ -48,10 +49,13 @@ pub fn put(memory: &mut [u8], flash: &mut [u8], key: u64, value: u64) -> Result<
     if let Some(place) = record::find(used, key) {
         page::entries_mut(page)[place] = record::new(key, value);
     } else if count < layout.entries() {
+        let total = head.total_after(&layout, 1, 0)?;
         append(page, count, key, value);
+        partition.set_total(total);
     } else {
         partition.count_buffer(&layout)?;
-        batch::write(&layout, name.partition, &mut partition, flash)?;
+        let due = Flush::judge(&layout, name.partition, head, flash, 1)?;
+        due.write(&layout, &mut partition, flash);
         append(partition.page_mut(&layout, name.page), 0, key, value);
         written = layout.geometry().pages;
     }
@@ -111,13 +115,18 @@ pub fn del(memory: &mut [u8], flash: &[u8], key: u64) -> Result<(), Refusal> {
     }
     let (count, place) = (used.len(), record::find(used, key));
     let youngest = shared.passing(&layout, Bits::of(&layout, key)).next();
-    if let Some(batch) = youngest {
-        partition.list(list::place(key, batch.number))?;
+    if youngest.is_some() && partition.is_list_full() {
+        return Err(Refusal::ListFull);
     }
     if let Some(place) = place {
+        let total = partition.head.total_after(&layout, 0, 1)?;
+        partition.set_total(total);
         let page = partition.page_mut(&layout, name.page);
         record::remove(&mut page::entries_mut(page)[..count], place);
         page::set_count(page, count - 1);
+    }
+    if let Some(batch) = youngest {
+        partition.list(list::place(key, batch.number));
     }
     Ok(())
 }
@@ -130,8 +139,17 @@ pub fn flush(memory: &mut [u8], flash: &mut [u8], partition: u32) -> Result<u32,
     if partition.count_buffer(&layout)? == 0 {
         return Err(Refusal::BufferEmpty);
     }
-    batch::write(&layout, number, &mut partition, flash)?;
+    let due = Flush::judge(&layout, number, partition.head, flash, 0)?;
+    due.write(&layout, &mut partition, flash);
     Ok(layout.geometry().pages)
+}
+
+/// The entries of the partition's buffer and live batches together, as its
+/// head has them. No page is read.
+pub fn count(memory: &[u8], flash: &[u8], partition: u32) -> Result<u32, Refusal> {
+    let layout = Layout::open(memory, flash)?;
+    let number = below(partition, layout.partitions())?;
+    Ok(Head::of(&layout, memory, number)?.total)
 }
 
 /// Shows one page where it lies: in memory for flush number 0, else in flash.

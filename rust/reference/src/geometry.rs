@@ -166,6 +166,12 @@ impl Layout {
         self.page_bytes() / RECORD_BYTES - 1
     }
 
+    /// (K + 1) × Q × E: entries that fit a partition's live batches and buffer.
+    #[inline]
+    pub fn most_entries(&self) -> u32 {
+        (self.geometry.kept + 1) * self.geometry.pages * self.entries() as u32
+    }
+
     /// The bytes of a partition's D list places.
     #[inline]
     pub fn list_bytes(&self) -> usize {

@@ -26,5 +26,5 @@ mod record;
 pub mod session;
 
 pub use answer::{Lookup, Place, Refusal};
-pub use calls::{del, flush, format, get, put, view, view_part};
+pub use calls::{count, del, flush, format, get, put, view, view_part};
 pub use geometry::{Geometry, Layout};

@@ -8,30 +8,56 @@ use crate::live::{self, Batch};
 use crate::page;
 use crate::record::{self, Record};
 
-/// What the head counts. Its last 8 bytes belong to nobody and stay as they are.
+/// What the head counts. Its last 4 bytes belong to nobody and stay as they are.
 #[derive(Clone, Copy, Debug)]
 pub struct Head {
     /// F: flushes done.
     pub flushes: u32,
     /// L: listed keys.
     pub listed: u32,
+    /// The entries of the buffer and the live batches together.
+    pub total: u32,
 }
 
 impl Head {
+    /// The head of a partition in memory, and nothing else of it.
     #[inline]
-    fn read(bytes: &[u8; HEAD_BYTES]) -> Head {
+    pub fn of(layout: &Layout, memory: &[u8], partition: usize) -> Result<Head, Refusal> {
+        let bytes = memory[layout.partition_at(partition)..].first_chunk();
+        Head::read(layout, bytes.ok_or(Refusal::ShortMemory)?)
+    }
+
+    /// Reads the head; refusal 12 if L or the total is above what fits.
+    #[inline]
+    fn read(layout: &Layout, bytes: &[u8; HEAD_BYTES]) -> Result<Head, Refusal> {
         let word = u128::from_le_bytes(*bytes);
-        Head {
+        let head = Head {
             flushes: word as u32,
             listed: (word >> 32) as u32,
+            total: (word >> 64) as u32,
+        };
+        if head.listed > layout.geometry().list || head.total > layout.most_entries() {
+            return Err(Refusal::Overfull);
         }
+        Ok(head)
+    }
+
+    /// The total that a call ends with which adds so many entries and takes so
+    /// many off; refusal 12 if it is below 0 or above what fits. Only the end is
+    /// judged: a put that flushes may take off one more than there were.
+    #[inline]
+    pub fn total_after(self, layout: &Layout, added: u32, gone: u32) -> Result<u32, Refusal> {
+        let total = (self.total + added).checked_sub(gone);
+        total
+            .filter(|&total| total <= layout.most_entries())
+            .ok_or(Refusal::Overfull)
     }
 }
 
 /// A partition that is only read.
 #[derive(Clone, Copy)]
 pub struct Partition<'a> {
-    /// The two counts.
+    /// The three counts.
     pub head: Head,
     /// The first L list places.
     pub listed: &'a [Record],
@@ -42,18 +68,18 @@ pub struct Partition<'a> {
 }
 
 impl<'a> Partition<'a> {
-    /// Cuts the partition; refusal 12 if L is above D.
-    #[inline]
+    /// Cuts the partition; refusal 12 if its head counts more than fits.
+    // The compiler would make it a call, at a sixth more instructions in a get.
+    #[inline(always)]
     pub fn cut(layout: &Layout, memory: &'a [u8], partition: usize) -> Result<Self, Refusal> {
         let bytes = &memory[layout.partition_at(partition)..][..layout.partition_bytes()];
         let (head, bytes) = bytes.split_first_chunk().ok_or(Refusal::ShortMemory)?;
         let (list, bytes) = bytes.split_at(layout.list_bytes());
         let (filters, buffer) = bytes.split_at(layout.kept() * layout.filter_bytes());
-        let head = Head::read(head);
-        let listed = list.as_chunks().0.get(..head.listed as usize);
+        let head = Head::read(layout, head)?;
         Ok(Partition {
             head,
-            listed: listed.ok_or(Refusal::Overfull)?,
+            listed: &list.as_chunks().0[..head.listed as usize],
             filters,
             buffer,
         })
@@ -77,7 +103,7 @@ impl<'a> Partition<'a> {
 
 /// A partition that is to change.
 pub struct PartitionMut<'a> {
-    /// The two counts.
+    /// The three counts.
     pub head: Head,
     head_bytes: &'a mut [u8; HEAD_BYTES],
     list: &'a mut [Record],
@@ -88,22 +114,17 @@ pub struct PartitionMut<'a> {
 }
 
 impl<'a> PartitionMut<'a> {
-    /// Cuts the partition; refusal 12 if L is above D.
+    /// Cuts the partition; refusal 12 if its head counts more than fits.
     #[inline]
     pub fn cut(layout: &Layout, memory: &'a mut [u8], partition: usize) -> Result<Self, Refusal> {
         let bytes = &mut memory[layout.partition_at(partition)..][..layout.partition_bytes()];
         let (head_bytes, bytes) = bytes.split_first_chunk_mut().ok_or(Refusal::ShortMemory)?;
         let (list, bytes) = bytes.split_at_mut(layout.list_bytes());
         let (filters, buffer) = bytes.split_at_mut(layout.kept() * layout.filter_bytes());
-        let head = Head::read(head_bytes);
-        let list = list.as_chunks_mut().0;
-        if head.listed as usize > list.len() {
-            return Err(Refusal::Overfull);
-        }
         Ok(PartitionMut {
-            head,
+            head: Head::read(layout, head_bytes)?,
             head_bytes,
-            list,
+            list: list.as_chunks_mut().0,
             filters,
             buffer,
         })
@@ -125,15 +146,21 @@ impl<'a> PartitionMut<'a> {
     pub fn set_head(&mut self, head: Head) {
         let word = u64::from(head.listed) << 32 | u64::from(head.flushes);
         self.head_bytes[..8].copy_from_slice(&word.to_le_bytes());
+        self.head_bytes[8..12].copy_from_slice(&head.total.to_le_bytes());
         self.head = head;
+    }
+
+    /// Puts back the total alone.
+    #[inline]
+    pub fn set_total(&mut self, total: u32) {
+        self.head_bytes[8..12].copy_from_slice(&total.to_le_bytes());
+        self.head.total = total;
     }
 
     #[inline]
     fn set_listed(&mut self, listed: usize) {
-        self.set_head(Head {
-            listed: listed as u32,
-            ..self.head
-        });
+        self.head.listed = listed as u32;
+        self.head_bytes[4..8].copy_from_slice(&self.head.listed.to_le_bytes());
     }
 
     /// The first L list places.
@@ -142,13 +169,18 @@ impl<'a> PartitionMut<'a> {
         &mut self.list[..self.head.listed as usize]
     }
 
-    /// Lists a key last; refusal 14 if no place is free.
+    /// Whether every list place has a key.
     #[inline]
-    pub fn list(&mut self, place: Record) -> Result<(), Refusal> {
+    pub fn is_list_full(&self) -> bool {
+        self.head.listed as usize == self.list.len()
+    }
+
+    /// Lists a key last, in a list that is not full.
+    #[inline]
+    pub fn list(&mut self, place: Record) {
         let listed = self.head.listed as usize;
-        *self.list.get_mut(listed).ok_or(Refusal::ListFull)? = place;
+        self.list[listed] = place;
         self.set_listed(listed + 1);
-        Ok(())
     }
 
     /// Takes the key's first place off the list, if it has one.

@@ -3,7 +3,7 @@
 use std::fmt;
 use std::io::{self, BufRead, Write};
 
-use crate::{del, flush, format, get, put, Geometry, Lookup, Refusal};
+use crate::{count, del, flush, format, get, put, Geometry, Lookup, Refusal};
 
 /// The length of each of the session's two areas.
 pub const AREA_BYTES: usize = 32_768;
@@ -21,6 +21,8 @@ pub enum Form {
     Del(u64),
     /// `(flush partition)`
     Flush(u32),
+    /// `(count partition)`
+    Count(u32),
 }
 
 impl Form {
@@ -33,6 +35,7 @@ impl Form {
             b"(get" => Form::Get(text.figure()?),
             b"(del" => Form::Del(text.figure()?),
             b"(flush" => Form::Flush(text.short_figure()?),
+            b"(count" => Form::Count(text.short_figure()?),
             _ => return None,
         };
         text.fixed(b")")?;
@@ -99,7 +102,8 @@ impl<'a> Text<'a> {
 /// What a line is answered with.
 #[derive(Clone, Copy, Debug, PartialEq, Eq)]
 pub enum Answer {
-    /// An accepted format, put, del or flush, with the pages written.
+    /// An accepted format, put, del or flush, with the pages written, or count,
+    /// with the total.
     Done(u32),
     /// An accepted get.
     Lookup(Lookup),
@@ -112,7 +116,7 @@ pub enum Answer {
 impl fmt::Display for Answer {
     fn fmt(&self, output: &mut fmt::Formatter<'_>) -> fmt::Result {
         match *self {
-            Answer::Done(pages) => write!(output, "(ok {pages})"),
+            Answer::Done(number) => write!(output, "(ok {number})"),
             Answer::Lookup(Lookup::Found { value, reads, .. }) => {
                 write!(output, "(found {value} {reads})")
             }
@@ -179,6 +183,7 @@ impl Session {
                 Answer::Done(0)
             }
             Form::Flush(partition) => Answer::Done(flush(memory, flash, partition)?),
+            Form::Count(partition) => Answer::Done(count(memory, flash, partition)?),
         })
     }
 }

@@ -99,7 +99,7 @@ fn flush_writes_buffer_pages_byte_for_byte() {
             table.buffer(partition, q).copy_from_slice(&page);
             pages.push(page);
         }
-        table.set_flushes(partition, 5);
+        table.set_batches(partition, 5);
         let before = table.clone();
         assert_eq!(table.flush(partition as u32), Ok(2));
         // Batch 6 lies in slot 2.
@@ -150,21 +150,21 @@ fn the_filter_of_a_flush_is_made_new() {
 }
 
 #[test]
-fn the_last_eight_head_bytes_are_carried() {
+fn the_last_four_head_bytes_are_carried() {
     let mut table = Table::new(G);
-    let mark = [1, 2, 3, 4, 5, 6, 7, 8];
-    table.head(0)[8..].copy_from_slice(&mark);
+    let mark = [5, 6, 7, 8];
+    table.head(0)[12..].copy_from_slice(&mark);
     for key in 0..10 {
         table.put(key, 7).unwrap();
-        assert_eq!(table.head(0)[8..], mark);
+        assert_eq!(table.head(0)[12..], mark);
     }
     table.del(8).unwrap();
     assert_eq!(table.listed(0), 1);
-    assert_eq!(table.head(0)[8..], mark);
+    assert_eq!(table.head(0)[12..], mark);
     table.put(8, 1).unwrap();
     assert_eq!(table.listed(0), 0);
     table.flush(0).unwrap();
-    assert_eq!(table.head(0)[8..], mark);
+    assert_eq!(table.head(0)[12..], mark);
     let flash = table.flash.clone();
     format(&mut table.memory, &flash, G).unwrap();
     assert_eq!(table.head(0)[8..], [0; 8]);

@@ -5,6 +5,8 @@ mod common;
 
 use common::call::{call_index, Answer, Call};
 use common::oracle::call_oracle;
+use common::plain::most_entries;
+use common::tally::{Outcome, Tally};
 use common::{flash_need, memory_need, set_word, Rng, Table};
 use reference::Geometry;
 
@@ -14,11 +16,12 @@ fn random_call(rng: &mut Rng, g: Geometry, keys: &[u64]) -> Call {
         1 => rng.next() as u32,
         _ => rng.below(1 << g.parts) as u32,
     };
-    match rng.below(16) {
+    match rng.below(17) {
         0..=5 => Call::Put(rng.pick(keys), rng.value()),
         6..=9 => Call::Get(rng.pick(keys)),
         10..=11 => Call::Del(rng.pick(keys)),
         12..=13 => Call::Flush(partition(rng)),
+        14 => Call::Count(partition(rng)),
         _ => {
             let beyond = usize::from(rng.one_in(8));
             let page = rng.below(g.pages as usize + beyond);
@@ -76,6 +79,30 @@ fn invent_batches(rng: &mut Rng, table: &mut Table, t: usize, keys: &[u64]) {
         let fill = rng.pick(&[0xff, 0xff, 0xfe, 0x77]);
         table.filter(t, slot).fill(fill);
     }
+    // Else a flush that drops one of them most often ends below 0.
+    if rng.one_in(2) {
+        table.recount(t);
+    }
+}
+
+/// F, L or the total, at or near its bounds.
+fn damage_head(rng: &mut Rng, table: &mut Table, t: usize) {
+    let g = table.g;
+    let most = most_entries(g);
+    let (at, number) = match rng.below(6) {
+        0 => (0, near(rng, g.kept + 1)),
+        1 => (4, near(rng, g.list)),
+        2 => (8, rng.below(2) as u32),
+        _ => (8, near(rng, most)),
+    };
+    set_word(table.head(t), at, number);
+}
+
+/// One byte of the head of a page that the next flush may drop.
+fn damage_dropped(rng: &mut Rng, table: &mut Table, t: usize, q: usize) {
+    let slot = table.flushes(t) % table.g.kept;
+    let byte = rng.below(12);
+    table.batch(t, slot as usize, q)[byte] = rng.next() as u8 & 7;
 }
 
 fn invent_list(rng: &mut Rng, table: &mut Table, t: usize, keys: &[u64]) {
@@ -104,65 +131,59 @@ fn damage(rng: &mut Rng, table: &mut Table, keys: &[u64]) {
     let g = table.g;
     let t = rng.below(1 << g.parts);
     let q = rng.below(g.pages as usize);
-    match rng.below(12) {
+    match rng.below(16) {
         0 => set_word(&mut table.memory, 4 * rng.below(8), rng.next() as u32 & 127),
-        1 => {
-            let number = near(rng, g.kept + 1);
-            table.set_flushes(t, number);
-        }
-        2 => {
-            let number = near(rng, g.list);
-            table.set_listed(t, number);
-        }
-        3 => {
+        1..=4 => damage_head(rng, table, t),
+        5 => {
             let count = near(rng, g.page / 16 - 1) as u16;
             table.buffer(t, q)[..2].copy_from_slice(&count.to_le_bytes());
         }
-        4 => {
+        6 => {
             let fill = rng.next() as u8 | rng.next() as u8;
             let slot = rng.below(g.kept as usize);
             table.filter(t, slot).fill(fill);
         }
-        5 => {
+        7 => {
             let slot = rng.below(g.kept as usize);
             let byte = rng.below(16);
             table.batch(t, slot, q)[byte] = rng.next() as u8 & 7;
         }
-        6 => invent_list(rng, table, t, keys),
-        7 => invent_buffer(rng, table, t, q, keys),
-        8 => {
+        8 => invent_list(rng, table, t, keys),
+        9 => invent_buffer(rng, table, t, q, keys),
+        10 => {
             let at = 32 + rng.below(table.memory.len() - 32);
             table.memory[at] = rng.next() as u8;
         }
-        9 => {
+        11 => {
             let at = rng.below(table.flash.len());
             table.flash[at] = rng.next() as u8;
         }
+        12 => damage_dropped(rng, table, t, q),
         _ => invent_batches(rng, table, t, keys),
     }
 }
 
-/// A table that has been used for a while.
-fn used_table(rng: &mut Rng, g: Geometry, keys: &[u64]) -> Table {
-    let mut table = Table::new(g);
-    for _ in 0..rng.below(80) {
-        let call = random_call(rng, g, keys);
-        compare(call, &mut table.memory, &mut table.flash);
+/// So many calls by the geometry that the table was formatted with.
+fn use_table(rng: &mut Rng, table: &mut Table, keys: &[u64], calls: usize, tally: &mut Tally) {
+    for _ in 0..calls {
+        let call = random_call(rng, table.g, keys);
+        let answer = compare(call, &mut table.memory, &mut table.flash);
+        tally.count(call, answer, &table.memory, &table.flash);
     }
-    table
 }
 
 #[test]
 fn damaged_tables() {
-    let mut accepted = 0u64;
-    let mut refused = [0u64; 22];
+    let mut tally = Tally::default();
     for seed in 0..4000 {
         println!("seed {seed}");
         let mut rng = Rng(seed);
         let g = rng.small_geometry();
         let number = rng.pick(&[3, 6, 12, 40]);
         let keys = rng.keys(number);
-        let mut table = used_table(&mut rng, g, &keys);
+        let mut table = Table::new(g);
+        let calls = rng.below(80);
+        use_table(&mut rng, &mut table, &keys, calls, &mut tally);
         for _ in 0..6 {
             damage(&mut rng, &mut table, &keys);
             if rng.one_in(60) {
@@ -173,26 +194,17 @@ fn damaged_tables() {
                 let length = table.flash.len() - 1;
                 table.flash.truncate(length);
             }
-            for _ in 0..12 {
-                let call = random_call(&mut rng, g, &keys);
-                match compare(call, &mut table.memory, &mut table.flash) {
-                    Answer::Refused(number, _) => refused[number as usize] += 1,
-                    _ => accepted += 1,
-                }
-            }
+            use_table(&mut rng, &mut table, &keys, 12, &mut tally);
             if table.memory.len() < memory_need(g) || table.flash.len() < flash_need(g) {
                 break;
             }
         }
     }
-    println!("accepted {accepted}, refused {refused:?}");
-    assert!(accepted > 10_000);
-    for number in [2, 3, 4, 11, 12, 13, 14, 15, 16, 17, 21] {
-        assert!(
-            refused[number] > 20,
-            "refusal {number} was hardly ever seen"
-        );
-    }
+    println!("{tally}");
+    tally.check(
+        |call, _| call != "format",
+        |_, outcome| outcome != Outcome::Refused(1),
+    );
 }
 
 #[test]

@@ -13,6 +13,7 @@ fn entries(table: &mut Table) -> Vec<(u64, u64)> {
 fn the_first_of_two_entries_is_taken() {
     let mut table = Table::new(G);
     table.fill_buffer(0, 0, &[(5, 1), (7, 2), (5, 3)]);
+    table.recount(0);
     assert_eq!(table.get(5), found(1, 0, 0));
     let mut after_put = table.clone();
     assert_eq!(after_put.put(5, 9), Ok(0));
@@ -55,6 +56,7 @@ fn entries_behind_the_count_have_no_effect_and_stay() {
     let mut table = Table::new(G);
     table.fill_buffer(0, 0, &[(5, 1), (6, 2), (7, 3)]);
     table.buffer(0, 0)[0] = 2;
+    table.recount(0);
     assert_eq!(table.get(7), none(0));
     assert_eq!(table.del(5), Ok(()));
     assert_eq!(entries(&mut table), [(6, 2), (0, 0), (7, 3)]);

@@ -1,11 +1,14 @@
 //! The history rule: whatever the list of calls, a get answers what the calls
-//! before it say, within the reads and the page writes that are allowed.
+//! before it say, within the reads and the page writes that are allowed, and a
+//! count tells the sum of the page counts.
 
 mod common;
 
 use std::collections::HashMap;
+use std::ops::Range;
 
 use common::call::{call_index, Answer, Call};
+use common::plain::sum_of_counts;
 use common::{flash_need, memory_need, Rng};
 use reference::Geometry;
 
@@ -66,7 +69,7 @@ impl History {
             }
             Call::Del(key) => drop(self.keys.remove(&key)),
             Call::Flush(partition) => self.flush(partition.into()),
-            Call::Get(_) | Call::View(..) => unreachable!(),
+            Call::Get(_) | Call::View(..) | Call::Count(_) => unreachable!(),
         }
     }
 
@@ -101,7 +104,7 @@ struct Weights {
 
 fn random_call(rng: &mut Rng, g: Geometry, keys: &[u64], weights: &Weights) -> Call {
     let Weights { put, del, flush } = *weights;
-    let kind = rng.below(put + del + flush + 2);
+    let kind = rng.below(put + del + flush + 3);
     if kind < put {
         Call::Put(rng.pick(keys), rng.value())
     } else if kind < put + del {
@@ -111,6 +114,8 @@ fn random_call(rng: &mut Rng, g: Geometry, keys: &[u64], weights: &Weights) -> C
     } else if kind == put + del + flush {
         let number = rng.below(2 * g.kept as usize);
         Call::View(rng.below(1 << g.parts) as u32, 0, number as u32)
+    } else if kind == put + del + flush + 1 {
+        Call::Count(rng.below((1 << g.parts) + 1) as u32)
     } else {
         Call::Get(rng.pick(keys))
     }
@@ -123,6 +128,7 @@ fn check_refusal(call: Call, answer: Answer) {
             Call::Del(_) => &[14],
             Call::Flush(_) => &[4, 15],
             Call::View(..) => &[17],
+            Call::Count(_) => &[4],
             Call::Format(_) => &[1],
             Call::Put(_, 0) => &[21],
             Call::Put(..) | Call::Get(_) => &[],
@@ -131,6 +137,15 @@ fn check_refusal(call: Call, answer: Answer) {
             expected.contains(&number) && reads == 0,
             "{call:?}: {number}"
         );
+    }
+}
+
+/// Of each of the partitions a count tells what stands in its pages.
+fn check_counts(g: Geometry, memory: &mut [u8], flash: &mut [u8], partitions: Range<u32>) {
+    for t in partitions {
+        let sum = sum_of_counts(g, memory, flash, t as usize) as u32;
+        let answer = call_index(Call::Count(t), memory, flash);
+        assert_eq!(answer, Answer::Counted(sum), "count of {t}");
     }
 }
 
@@ -155,11 +170,14 @@ fn run(rng: &mut Rng, g: Geometry, steps: usize, memory: &mut [u8], flash: &mut 
         check_refusal(call, answer);
         history.call(call, answer);
         history.check_totals();
+        let own = call.partition(g).filter(|&t| t < 1 << g.parts);
+        check_counts(g, memory, flash, own.map_or(0..0, |t| t..t + 1));
         for _ in 0..2 {
             let key = rng.pick(&keys);
             history.check_get(key, call_index(Call::Get(key), memory, flash));
         }
         if step % 256 == 0 || step + 1 == steps {
+            check_counts(g, memory, flash, 0..1 << g.parts);
             for &key in &keys {
                 history.check_get(key, call_index(Call::Get(key), memory, flash));
             }

@@ -87,6 +87,7 @@ fn places_from_l_on_are_not_looked_at() {
     table.set_list(0, &[(5, 1), (6, 1)]);
     table.set_listed(0, 1);
     table.fill_buffer(0, 0, &[(6, 60)]);
+    table.recount(0);
     assert_eq!(table.get(6), found(60, 0, 0));
     table.put(6, 61).unwrap();
     assert_eq!(table.list_place(0, 1), record(6, 1));
@@ -117,7 +118,7 @@ fn entries_go_with_their_stamped_batch_and_not_before() {
 #[test]
 fn a_flush_closes_up_whole_places() {
     let mut table = Table::new(LISTS);
-    table.set_flushes(0, 9);
+    table.set_batches(0, 9);
     let high = 0xffff_0000 << 32;
     // K is 3: flush 10 takes off what is stamped 7.
     table.set_list(0, &[(1, 7), (2, high | 8), (3, high | 7), (4, 6), (5, 7)]);
@@ -153,7 +154,7 @@ fn stamps_are_compared_as_plain_integers() {
         (u32::MAX - 1, vec![1, 2, 3, 4]),
     ] {
         let mut table = Table::new(LISTS);
-        table.set_flushes(0, flushes);
+        table.set_batches(0, flushes);
         table.set_list(0, &stamps);
         table.fill_buffer(0, 0, &[(9, 9)]);
         table.flush(0).unwrap();
@@ -162,7 +163,7 @@ fn stamps_are_compared_as_plain_integers() {
     }
     // With K = 1 a flush takes off what is stamped with the batch before it.
     let mut table = Table::new(Geometry { kept: 1, ..LISTS });
-    table.set_flushes(0, u32::MAX - 1);
+    table.set_batches(0, u32::MAX - 1);
     table.set_list(0, &stamps);
     table.fill_buffer(0, 0, &[(9, 9)]);
     table.flush(0).unwrap();
@@ -172,7 +173,7 @@ fn stamps_are_compared_as_plain_integers() {
 #[test]
 fn a_put_that_flushes_drops_stamped_entries_before_its_own() {
     let mut table = Table::new(LISTS);
-    table.set_flushes(0, 3);
+    table.set_batches(0, 3);
     // The first entry of key 8 goes with the flush, the second with the put.
     table.set_list(0, &[(8, 1), (6, 2), (8, 2), (8, 3)]);
     table.fill_buffer(0, 0, &[(1, 1), (2, 2), (3, 3)]);

@@ -13,7 +13,8 @@ const GET: Call = |t| t.get(PAGE_1).map(drop);
 const DEL: Call = |t| t.del(PAGE_1);
 const FLUSH: Call = |t| t.flush(0).map(drop);
 const VIEW: Call = |t| t.view(0, 0, 9).map(drop);
-const ALL: [Call; 6] = [PUT, PUT_0, GET, DEL, FLUSH, VIEW];
+const COUNT: Call = |t| t.count(0).map(drop);
+const ALL: [Call; 7] = [PUT, PUT_0, GET, DEL, FLUSH, VIEW, COUNT];
 
 #[test]
 fn format_checks_1_2_3() {
@@ -86,6 +87,7 @@ fn flash_comes_before_the_arguments_and_the_state() {
         assert_eq!(table.refuses(call), (3, 0));
     }
     assert_eq!(table.refuses(|t| t.flush(1)), (3, 0));
+    assert_eq!(table.refuses(|t| t.count(1)), (3, 0));
     assert_eq!(table.refuses(|t| t.view(1, 0, 0).map(drop)), (3, 0));
     assert_eq!(table.refuses(|t| t.view(0, 1, 0).map(drop)), (3, 0));
 }
@@ -98,10 +100,30 @@ fn the_arguments_come_before_the_counts() {
         table.buffer(t, 0)[0] = 4;
     }
     assert_eq!(table.refuses(|t| t.flush(2)), (4, 0));
+    assert_eq!(table.refuses(|t| t.count(2)), (4, 0));
     assert_eq!(table.refuses(|t| t.view(2, 0, 0).map(drop)), (4, 0));
     assert_eq!(table.refuses(|t| t.view(0, 2, 0).map(drop)), (4, 0));
     assert_eq!(table.refuses(|t| t.flush(1)), (12, 0));
+    assert_eq!(table.refuses(|t| t.count(1)), (12, 0));
     assert_eq!(table.refuses(|t| t.view(0, 1, 0).map(drop)), (12, 0));
+}
+
+#[test]
+fn the_total_comes_where_l_does() {
+    let mut table = Table::new(WIDE);
+    for t in 0..2 {
+        table.set_total(t, u32::MAX);
+    }
+    assert_eq!(table.refuses(PUT_0), (21, 0));
+    assert_eq!(table.refuses(|t| t.view(0, 2, 0).map(drop)), (4, 0));
+    // No page is there for the view, and nothing for the flush.
+    for call in [PUT, GET, DEL, FLUSH, VIEW, COUNT] {
+        assert_eq!(table.refuses(call), (12, 0));
+    }
+    table.flash.pop();
+    for call in ALL {
+        assert_eq!(table.refuses(call), (3, 0));
+    }
 }
 
 #[test]
@@ -119,6 +141,20 @@ fn del_the_counts_come_before_the_full_list() {
 }
 
 #[test]
+fn del_checks_14_before_the_total_at_its_end() {
+    let mut table = Table::new(G);
+    table.set_batches(0, 1);
+    table.filter(0, 0).fill(0xff);
+    table.fill_buffer(0, 0, &[(PAGE_1, 1)]);
+    table.set_listed(0, 1);
+    assert_eq!(table.refuses(DEL), (14, 0));
+    table.set_listed(0, 0);
+    assert_eq!(table.refuses(DEL), (12, 0));
+    table.set_total(0, 1);
+    assert_eq!(DEL(&mut table), Ok(()));
+}
+
+#[test]
 fn flush_checks_12_15_16() {
     let mut table = Table::new(WIDE);
     table.set_flushes(0, u32::MAX);
@@ -130,6 +166,49 @@ fn flush_checks_12_15_16() {
     assert_eq!(table.refuses(FLUSH), (16, 0));
     table.buffer(0, 1)[0] = 4;
     assert_eq!(table.refuses(FLUSH), (12, 0));
+}
+
+#[test]
+fn flush_checks_15_16_13_and_the_total_at_its_end() {
+    let mut table = Table::new(WIDE);
+    table.set_flushes(0, u32::MAX);
+    assert_eq!(table.refuses(FLUSH), (15, 0));
+    table.fill_buffer(0, 0, &[(1, 1)]);
+    assert_eq!(table.refuses(FLUSH), (16, 0));
+    // Batch 1 goes with flush 4, and no page of it is in order.
+    table.set_flushes(0, 3);
+    assert_eq!(table.refuses(FLUSH), (13, 1));
+    table.set_batches(0, 3);
+    table.batch(0, 0, 0)[0] = 3;
+    table.batch(0, 0, 1)[6] = 1;
+    assert_eq!(table.refuses(FLUSH), (13, 2));
+    table.batch(0, 0, 1)[6] = 0;
+    assert_eq!(table.refuses(FLUSH), (12, 0));
+    table.set_total(0, 3);
+    assert_eq!(FLUSH(&mut table), Ok(()));
+}
+
+#[test]
+fn put_checks_12_16_13_and_the_total_at_its_end() {
+    let mut table = Table::new(WIDE);
+    table.fill_buffer(0, 1, &[1, 2, 3].map(|i| (PAGE_1 + i, 1)));
+    table.set_flushes(0, u32::MAX);
+    assert_eq!(table.refuses(PUT), (16, 0));
+    table.set_flushes(0, 3);
+    assert_eq!(table.refuses(PUT), (13, 1));
+    table.buffer(0, 0)[0] = 4;
+    assert_eq!(table.refuses(PUT), (12, 0));
+    table.buffer(0, 0)[0] = 0;
+    table.set_batches(0, 3);
+    table.batch(0, 0, 0)[0] = 3;
+    table.batch(0, 0, 1)[6] = 1;
+    assert_eq!(table.refuses(PUT), (13, 2));
+    assert_eq!(table.refuses(PUT_0), (21, 0));
+    table.batch(0, 0, 1)[6] = 0;
+    assert_eq!(table.refuses(PUT), (12, 0));
+    assert_eq!(table.refuses(PUT_0), (21, 0));
+    table.set_total(0, 2);
+    assert_eq!(PUT(&mut table), Ok(()));
 }
 
 #[test]

@@ -8,13 +8,14 @@ use reference::{format, Geometry, Refusal};
 type Call = fn(&mut Table) -> Result<(), Refusal>;
 
 /// Every call but format, with arguments that are in range.
-const CALLS: [Call; 6] = [
+const CALLS: [Call; 7] = [
     |t| t.put(PAGE_1, 1).map(drop),
     |t| t.get(PAGE_1).map(drop),
     |t| t.del(PAGE_1),
     |t| t.flush(0).map(drop),
     |t| t.view(0, 0, 0).map(drop),
     |t| t.view(0, 0, 1).map(drop),
+    |t| t.count(0).map(drop),
 ];
 
 /// Every call but format is refused with the number and 0 reads.
@@ -120,12 +121,14 @@ fn refusal_4_at_s_and_q() {
     table.put(1 << 63, 1).unwrap();
     for partition in [2, 3, u32::MAX] {
         assert_eq!(table.refuses(|t| t.flush(partition)), (4, 0));
+        assert_eq!(table.refuses(|t| t.count(partition)), (4, 0));
         assert_eq!(table.refuses(|t| t.view(partition, 0, 0).map(drop)), (4, 0));
     }
     for page in [2, 3, u32::MAX] {
         assert_eq!(table.refuses(|t| t.view(0, page, 0).map(drop)), (4, 0));
     }
     assert_eq!(table.view(1, 1, 0).map(<[u8]>::len), Ok(64));
+    assert_eq!(table.count(1), Ok(1));
     assert_eq!(table.flush(1), Ok(2));
     assert_eq!(table.flush(0), Ok(2));
 }
@@ -170,6 +173,7 @@ fn refusal_12_for_the_list() {
     all_accept(&table);
     assert_eq!(table.refuses(|t| t.get(u64::MAX)), (12, 0));
     assert_eq!(table.refuses(|t| t.flush(1)), (12, 0));
+    assert_eq!(table.refuses(|t| t.count(1)), (12, 0));
 }
 
 #[test]
@@ -190,8 +194,9 @@ fn refusal_12_for_a_buffer_page() {
         assert_eq!(table.get(2), found(6, 0, 0));
         assert_eq!(table.clone().del(2), Ok(()));
         assert!(table.view(0, 0, 0).is_ok());
-        // A flash page is shown whatever the buffer page counts.
+        // A flash page is shown, and the total told, whatever the buffer page counts.
         assert!(table.view(0, 1, 1).is_ok());
+        assert_eq!(table.count(0), Ok(2));
         // A put that flushes reads all pages.
         table.fill_buffer(0, 0, &[(2, 1), (4, 1), (6, 1)]);
         assert_eq!(table.clone().put(4, 7), Ok(0));
@@ -303,7 +308,7 @@ fn refusal_15_goes_by_the_counts() {
 #[test]
 fn refusal_16_when_the_numbers_are_used_up() {
     let mut table = Table::new(G);
-    table.set_flushes(0, u32::MAX - 1);
+    table.set_batches(0, u32::MAX - 1);
     table.fill_buffer(0, 0, &[(1, 1), (2, 2), (3, 3)]);
     assert_eq!(table.put(4, 4), Ok(1));
     assert_eq!(table.flushes(0), u32::MAX);

@@ -79,13 +79,13 @@ fn lines_and_the_end_of_input() {
 
 #[test]
 fn before_a_format_every_form_is_refused() {
-    let input = b"(put 1 2)\n(get 1)\n(del 1)\n(flush 0)\n(flush 9)\nno form\n";
-    let refused = "(refused 11 0)\n".repeat(5);
+    let input = b"(put 1 2)\n(get 1)\n(del 1)\n(flush 0)\n(flush 9)\n(count 0)\nno form\n";
+    let refused = "(refused 11 0)\n".repeat(6);
     assert_eq!(output(input), refused + "(bad)\n");
 }
 
 /// Texts that are no form.
-const BAD: [&[u8]; 44] = [
+const BAD: [&[u8]; 47] = [
     b"",
     b" ",
     b"(",
@@ -128,7 +128,10 @@ const BAD: [&[u8]; 44] = [
     b"(flush)",
     b"(flush 0 0)",
     b"(view 0 0 0)",
-    b"(count 0)",
+    b"(count)",
+    b"(count 0 0)",
+    b"(counts 0)",
+    b"(Count 0)",
     b"(format)",
 ];
 
@@ -157,6 +160,10 @@ fn figures_have_their_bounds() {
         Form::read(b"(flush 4294967295)"),
         Some(Form::Flush(u32::MAX))
     );
+    assert_eq!(
+        Form::read(b"(count 4294967295)"),
+        Some(Form::Count(u32::MAX))
+    );
     for text in [
         "(get 18446744073709551616)",
         "(del 18446744073709551616)",
@@ -165,6 +172,7 @@ fn figures_have_their_bounds() {
         "(put 1 99999999999999999999999999999999999999999)",
         "(get 184467440737095516150)",
         "(flush 4294967296)",
+        "(count 4294967296)",
         "(flush 18446744073709551615)",
         "(flush 18446744073709551616)",
     ] {
@@ -233,6 +241,37 @@ fn flush_of_a_partition_that_is_not_there() {
     let input =
         format!("{FORMAT}\n(put 1 1)\n(flush 1)\n(flush 4294967295)\n(flush 0)\n(flush 0)\n");
     let answers = "(ok 0)\n(ok 0)\n(refused 4 0)\n(refused 4 0)\n(ok 1)\n(refused 15 0)\n";
+    assert_eq!(output(input.as_bytes()), answers);
+}
+
+#[test]
+fn counts_of_a_partition() {
+    // The fourth put flushes three entries, the last flush drops them again.
+    let lines = [
+        (FORMAT, "(ok 0)"),
+        ("(count 0)", "(ok 0)"),
+        ("(count 1)", "(refused 4 0)"),
+        ("(put 1 10)", "(ok 0)"),
+        ("(put 2 20)", "(ok 0)"),
+        ("(put 3 30)", "(ok 0)"),
+        ("(put 0 40)", "(ok 1)"),
+        ("(put 5 50)", "(ok 0)"),
+        ("(count 0)", "(ok 5)"),
+        ("(del 5)", "(ok 0)"),
+        ("(count 0)", "(ok 4)"),
+        ("(del 2)", "(ok 0)"),
+        ("(count 0)", "(ok 4)"),
+        ("(flush 0)", "(ok 1)"),
+        ("(put 6 60)", "(ok 0)"),
+        ("(count 0)", "(ok 5)"),
+        ("(flush 0)", "(ok 1)"),
+        ("(count 0)", "(ok 2)"),
+    ];
+    let input: String = lines.iter().map(|(line, _)| format!("{line}\n")).collect();
+    let answers: String = lines
+        .iter()
+        .map(|(_, answer)| format!("{answer}\n"))
+        .collect();
     assert_eq!(output(input.as_bytes()), answers);
 }
 

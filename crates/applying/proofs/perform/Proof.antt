@@ -39,6 +39,12 @@ returns-5 c =
 
 returns-6 : tie.Need-returns-6
 returns-6 c =
+    let made = c .before .before .before in
+    let read = made .before .before .before .before .before .before .before in
+    calls (read .before .before .before .before .before .pre) (known formCall (read .read-line .ensures) (made .before .before .before .before .before .partition2 .given .1)) (made .count .ensures) (c .before .before .write-written5 .ensures)
+
+returns-7 : tie.Need-returns-7
+returns-7 c =
     let read = c .before .before .before .before .before .before in
     bad (read .before .before .before .before .before .pre) (known formCall (read .read-line .ensures) (c .before .before .before .before .enum-told .given .1)) (c .before .before .write-bad .ensures)
 
@@ -51,10 +57,12 @@ perform-spec =
     (λ c. search needs) (λ c κs. search needs) (λ c κs. search needs)
     (λ c. search needs) (λ c κs. search needs) (λ c κs. search needs)
     (λ c. search needs) (λ c κs. search needs) (λ c κs. search needs)
+    (λ c. search needs) (λ c κs. search needs) (λ c κs. search needs)
     (λ c. search needs) (λ c κs. search needs)
     (λ c. search needs) (λ c. search needs) (λ c. search needs) returns
     (λ c. search needs) (λ c. search needs) (λ c. search needs) returns-2
     (λ c. search needs) (λ c. search needs) (λ c. search needs) returns-3
     (λ c. search needs) (λ c. search needs) (λ c. search needs) returns-4
     (λ c. search needs) (λ c. search needs) (λ c. search needs) returns-5
-    (λ c. search needs) returns-6)
+    (λ c. search needs) (λ c. search needs) (λ c. search needs) returns-6
+    (λ c. search needs) returns-7)

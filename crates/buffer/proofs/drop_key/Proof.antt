@@ -1,8 +1,9 @@
 -- The key's page is lent as a part, and comes back without the key's first entry.
+use mathlib.Core.Path.{_∙_, ap}
 use native.Mathlib.Omega.{arith}
 use borrow.Author.Needs.{needs}
 use Rattle.model.specs.Keys.{pageOf}
-use Rattle.model.specs.Page.{without}
+use Rattle.model.specs.Page.{without, taken}
 use Rattle.model.specs.Del.{unbuffered}
 use Rattle.model.proofs.Lengths.{length-without}
 use Rattle.model.proofs.Sizes.{sizes, page-of-lt}
@@ -24,7 +25,11 @@ drop-key-requires c κs =
 
 returns : tie.Need-returns
 unfolding unbuffered
-returns c = let a = c .before .before .before .before .before .before .before .args in lent (c .before .before .before .before) .back (without (a .key)) (length-without (a .key)) _ (c .before .before .drop-key .ensures)
+returns c =
+    let a = c .before .before .before .before .before .before .before .args in
+    let l = lent (c .before .before .before .before) in
+    let r = c .before .before .drop-key .ensures in
+    (l .back (without (a .key)) (length-without (a .key)) _ (r .0), r .1 ∙ ap (taken (a .key)) (l .own))
 
 pub drop-key-spec : {M : Type 1} → statement M
 drop-key-spec = tie.close (tie.spec (λ c κs. c .before .pre .0 .fine) (λ c. search needs) (λ c. omega (arith, lent c .inside)) (λ c. search needs) (λ c. search needs) (λ c. omega (arith, lent c .inside)) drop-key-requires (λ c. search needs) returns)

@@ -15,4 +15,4 @@ unfolding keyOverfull
 returns c = rw (c .is-page-overfull .ensures, c .before .page-of .ensures, c .before .before .is-overfull .ensures, c .before .before .before .read .ensures)
 
 pub is-key-overfull-spec : {M : Type 1} → statement M
-is-key-overfull-spec = tie.close (tie.spec (λ c κs. omega (arith, list-inside _ _ (c .before .pre))) (λ c κs. tt) (λ c κs. search needs) is-page-overfull-requires returns)
+is-key-overfull-spec = tie.close (tie.spec (λ c κs. omega (arith, list-inside _ _ (c .before .pre))) (λ c κs. c .before .before .pre .fine) (λ c κs. search needs) is-page-overfull-requires returns)

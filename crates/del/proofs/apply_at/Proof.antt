@@ -1,10 +1,14 @@
--- The key's partition is lent as a part of memory, and comes back without the key in its buffer and with the key listed.
+-- The key's partition is lent as a part of memory, and comes back without the key in its buffer and its total, and with the key listed.
+use Prim.Native.Nat.{ℕ}
+use mathlib.Core.List.{List}
 use mathlib.Core.Path.{_∙_}
 use native.Mathlib.Omega.{arith}
 use borrow.Author.Needs.{needs}
-use Rattle.model.specs.Keys.{partitionOf}
+use Rattle.model.specs.Keys.{partitionOf, pageOf}
+use Rattle.model.specs.Page.{taken}
+use Rattle.model.specs.Partition.{totalled, bufferOf}
 use Rattle.model.specs.Del.{unbuffered, listedWith}
-use Rattle.model.proofs.Lengths.{length-unbuffered, length-listedWith}
+use Rattle.model.proofs.Lengths.{length-unbuffered, length-listedWith, length-totalled}
 use Rattle.partition.proofs.Lending.{Lent, lends-key}
 use Rattle.del.specs.Plans.{stamp}
 use Rattle.del.proofs.apply_at.Statement.{statement}
@@ -19,7 +23,9 @@ apply-requires c κs = let l = lent (c .before) in (l .whole, rw (l .own) (c .be
 returns : tie.Need-returns
 returns c =
     let a = c .before .before .before .before .before .before .before .args in
-    lent (c .before .before .before .before) .back (λ p. listedWith (stamp (a .youngest)) (a .g) (a .key) (unbuffered (a .g) (a .key) p)) (λ p. length-listedWith (stamp (a .youngest)) (a .g) (a .key) (unbuffered (a .g) (a .key) p) ∙ length-unbuffered (a .g) (a .key) p) _ (c .before .before .apply .ensures)
+    let listed : List ℕ → List ℕ = λ p. listedWith (stamp (a .youngest)) (a .g) (a .key) (unbuffered (a .g) (a .key) p) in
+    lent (c .before .before .before .before) .back (λ p. totalled 0 (taken (a .key) (bufferOf (a .g) p (pageOf (a .g) (a .key)))) (listed p))
+    (λ p. length-totalled 0 _ (listed p) ∙ length-listedWith (stamp (a .youngest)) (a .g) (a .key) (unbuffered (a .g) (a .key) p) ∙ length-unbuffered (a .g) (a .key) p) _ (c .before .before .apply .ensures)
 
 pub apply-at-spec : {M : Type 1} → statement M
 apply-at-spec = tie.close (tie.spec (λ c κs. search needs) (λ c κs. search needs) (λ c. omega (arith, lent c .inside)) (λ c. search needs) (λ c. search needs) (λ c. omega (arith, lent c .inside)) apply-requires (λ c. search needs) returns)

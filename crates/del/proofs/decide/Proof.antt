@@ -17,7 +17,7 @@ find-requires : tie.Need-find-requires
 find-requires c κs = (c .before .before .before .pre, key-fits _ _ _ (fits c) .0)
 
 plan-listing-requires : tie.Need-plan-listing-requires
-plan-listing-requires c κs = (c .before .before .before .before .before .before .pre, key-fits _ _ _ (fits (c .before .before .before)) .0)
+plan-listing-requires c κs = (c .before .before .before .before .before .before .pre, fits (c .before .before .before))
 
 returns : tie.Need-returns
 returns c = sym (over _ _ _ (sym (c .before .is-key-overfull .ensures) ∙ c .if1 .taken))

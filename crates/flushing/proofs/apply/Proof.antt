@@ -1,10 +1,10 @@
 -- The steps are those of `flushed`, in its order. The new filter lies behind the list, so the entries that expire are those of the partition as it was; filter and list lie in front of the buffer, so the batch is that of the partition as it was.
-use Prim.Native.Nat.{_≤_, _<_}
-use mathlib.Core.Path.{_≡_, _∙_, ap}
+use Prim.Native.Nat.{ℕ, _+_, _≤_, _<_}
+use mathlib.Core.Path.{_≡_, refl, sym, _∙_, ap}
 use native.Mathlib.Omega.{arith}
 use borrow.Author.Needs.{needs}
 use Rattle.model.specs.DeleteList.{unexpired}
-use Rattle.model.specs.Partition.{Head, unlistedHead, flushesOf, listedOf, listOf}
+use Rattle.model.specs.Partition.{Head, unlistedHead, flushesOf, listedOf, listOf, slot}
 use Rattle.model.specs.Refusals.{lastFlush}
 use Rattle.model.specs.Flush.{filtered, delisted, headAfter}
 use Rattle.model.proofs.Sizes.{sizes, slot-is-lt}
@@ -22,7 +22,7 @@ abbrev start : tie.After-read → tie.Start
 start c = c .before .before .before .before
 
 abbrev read-at : tie.After-make → tie.After-read
-read-at c = c .before .before .before
+read-at c = c .before .before
 
 abbrev made-at : tie.After-expire → tie.After-make
 made-at c = c .before .before .before .before
@@ -41,12 +41,12 @@ small c =
 
 make-requires : tie.Need-make-requires
 make-requires c κs =
-    let s = start (c .before .before) in
-    (s .pre .0 .fine, (slot-is-lt _ (s .pre .0 .fine) _ (c .slot-of .ensures), (s .pre .0 .long, pages-fit _ _ (s .pre .1 .0 .pages))))
+    let s = start (c .before) in
+    (s .pre .0 .fine, (slot-is-lt _ (s .pre .0 .fine) _ (s .pre .1 .1 .1), (s .pre .0 .long, pages-fit _ _ (s .pre .1 .0 .pages))))
 
 -- ---- the partition with its new filter, and the list without what expires
 made : (c : tie.After-make) → let a = start (read-at c) .args in c .make .last .0 ≡ filtered (a .g) (a .part .now)
-made c = filter-made _ _ (c .before .slot-of .ensures) (flushes-is (read-at c .read .ensures)) (c .make .ensures)
+made c = filter-made _ _ (start (read-at c) .pre .1 .1 .1) refl (c .make .ensures)
 
 expire-requires : tie.Need-expire-requires
 expire-requires c κs =
@@ -74,8 +74,12 @@ number-kept c = ap (λ (h : Head). h .flushes) (same-head _ _ (start (read-at (m
 move-batch-requires : tie.Need-move-batch-requires
 move-batch-requires c κs =
     let x = c .before .before .before .before in
-    let s = start (read-at (made-at x)) in
-    (record { fine = s .pre .0 .fine; long = omega (arith, s .pre .0 .long) }, (omega (arith, s .pre .1 .0 .below), (omega (arith, s .pre .1 .0 .number, number-kept x), omega (arith, s .pre .1 .1))))
+    let m = made-at x in
+    let r = read-at m in
+    let s = start r in (
+      record { fine = s .pre .0 .fine; long = omega (arith, s .pre .0 .long) },
+      (omega (arith, s .pre .1 .0 .below), (omega (arith, flushes-is (r .read .ensures), number-kept x), (s .pre .1 .1 .1 ∙ ap (λ (n : ℕ). slot (s .args .g) (n + 1)) (sym (flushes-is (r .read .ensures))), omega (arith, s .pre .1 .1 .0)))),
+    )
 
 -- ---- the new head
 flushed-requires : tie.Need-flushed-requires
@@ -107,4 +111,4 @@ returns c =
     )
 
 pub apply-spec : {M : Type 1} → statement M
-apply-spec = tie.close (tie.spec (λ c κs. omega (arith, list-inside _ _ (c .before .before .before .pre .0))) (λ c. omega (arith, small (c .before))) (λ c κs. search needs) make-requires expire-requires move-batch-requires flushed-requires cast-unlisted sub-unlisted (λ c κs. omega (arith, listed-is (c .flushed .ensures))) put-back-requires (λ c. search needs) (λ c. search needs) returns)
+apply-spec = tie.close (tie.spec (λ c κs. omega (arith, list-inside _ _ (c .before .before .before .pre .0))) make-requires expire-requires (λ c. omega (arith, small (read-at (made-at (c .before .before .before .before))))) move-batch-requires flushed-requires cast-unlisted sub-unlisted (λ c κs. omega (arith, listed-is (c .flushed .ensures))) put-back-requires (λ c. search needs) (λ c. search needs) returns)

@@ -7,7 +7,7 @@ use borrow.Author.Needs.{needs}
 use Rattle.model.specs.Geometry.{slotPageAt}
 use Rattle.model.specs.Page.{expected}
 use Rattle.model.specs.Partition.{slot}
-use Rattle.model.specs.Get.{batchPage}
+use Rattle.model.specs.Batch.{batchPage}
 use Rattle.model.proofs.Sizes.{slot-lt, slot-is-lt, slot-page-fits}
 use Rattle.view.proofs.locate_in_flash.Statement.{statement}
 use Rattle.view.proofs.locate_in_flash.Tie as tie

@@ -1,6 +1,7 @@
 //! Damage to a table: one number somewhere in its areas set to another.
 
-use crate::common::{Rng, Table};
+use crate::common::plain::{live, most_entries};
+use crate::common::{set_word, Rng, Table};
 
 /// Sets the number at a place, of so many bytes, to one near what it is or
 /// should be, to a bound, to a key, or to any.
@@ -45,59 +46,94 @@ pub fn damage(rng: &mut Rng, table: &mut Table, keys: &[u64]) {
     let g = table.g;
     let (t, q) = (rng.below(1 << g.parts), rng.below(g.pages as usize));
     let slot = rng.below(g.kept as usize);
-    let flushes = table.flushes(t);
-    match rng.below(24) {
+    match rng.below(32) {
         0 => {
             let at = 4 * rng.below(8);
             scribble(rng, &mut table.memory, at, 4, 1, keys);
         }
-        1..=3 => scribble(rng, table.head(t), 0, 4, g.kept.into(), keys),
-        4..=6 => scribble(rng, table.head(t), 4, 4, g.list.into(), keys),
-        7 => scribble(rng, table.head(t), 8, 8, 1, keys),
-        8..=11 => {
-            let place = rng.below(g.list as usize);
-            let (at, width) = rng.pick(&[(0, 8), (8, 4), (8, 4), (12, 4)]);
-            let gone = u64::from(flushes).wrapping_sub(g.kept.into());
-            scribble(rng, table.list_place(t, place), at, width, gone, keys);
-        }
-        12 => {
+        1..=12 => damage_head(rng, table, t, keys),
+        13..=16 => damage_list(rng, table, t, keys),
+        17 => {
             let at = rng.below(g.bits as usize / 8);
             scribble(rng, table.filter(t, slot), at, 1, 0xff, keys);
         }
         // A filter that passes all keys makes gets read.
-        13..=15 => table.filter(t, slot).fill(0xff),
-        16..=18 => {
+        18..=20 => table.filter(t, slot).fill(0xff),
+        21..=23 => {
             let (at, width) = page_field(rng, g.page as usize);
             let most = u64::from(g.page / 16 - 1);
             scribble(rng, table.buffer(t, q), at, width, most, keys);
         }
-        19..=21 => {
+        24..=26 => {
             let (at, width) = page_field(rng, g.page as usize);
-            scribble(
-                rng,
-                table.batch(t, slot, q),
-                at,
-                width,
-                flushes.into(),
-                keys,
-            );
+            let flushes = table.flushes(t).into();
+            scribble(rng, table.batch(t, slot, q), at, width, flushes, keys);
         }
+        27..=28 => damage_dropped(rng, table, t, q, keys),
         // The flush numbers are nearly used up, and the batches keep theirs.
-        22 => table.set_flushes(t, u32::MAX - rng.below(4) as u32),
-        _ => renumber(rng, table, t),
+        29 => table.set_flushes(t, u32::MAX - rng.below(4) as u32),
+        _ => {
+            table.set_flushes(t, u32::MAX - rng.below(4) as u32);
+            mend(table, t);
+        }
     }
 }
 
-/// A partition that has had nearly all its flushes, its live batches in order.
-fn renumber(rng: &mut Rng, table: &mut Table, t: usize) {
+/// A number of a partition's head: F, L, the total or what is behind it.
+fn damage_head(rng: &mut Rng, table: &mut Table, t: usize, keys: &[u64]) {
     let g = table.g;
-    let flushes = u32::MAX - rng.below(4) as u32;
-    table.set_flushes(t, flushes);
-    for age in 0..g.kept {
-        let number = flushes - age;
-        let slot = ((number - 1) % g.kept) as usize;
-        for q in 0..g.pages as usize {
-            table.batch(t, slot, q)[8..12].copy_from_slice(&number.to_le_bytes());
+    let (at, near) = match rng.below(12) {
+        0..=2 => (0, g.kept),
+        3..=5 => (4, g.list),
+        6..=8 => (8, most_entries(g)),
+        9..=10 => (8, 1),
+        _ => (12, 1),
+    };
+    scribble(rng, table.head(t), at, 4, near.into(), keys);
+}
+
+fn damage_list(rng: &mut Rng, table: &mut Table, t: usize, keys: &[u64]) {
+    let place = rng.below(table.g.list as usize);
+    let (at, width) = rng.pick(&[(0, 8), (8, 4), (8, 4), (12, 4)]);
+    let gone = u64::from(table.flushes(t)).wrapping_sub(table.g.kept.into());
+    scribble(rng, table.list_place(t, place), at, width, gone, keys);
+}
+
+/// A number of the head of a page that the partition's next flush may drop.
+fn damage_dropped(rng: &mut Rng, table: &mut Table, t: usize, q: usize, keys: &[u64]) {
+    let g = table.g;
+    let flushes = table.flushes(t);
+    let gone = u64::from(flushes) + 1 - u64::from(g.kept.min(flushes));
+    let (at, width, near) = rng.pick(&[
+        (0, 2, u64::from(g.page / 16 - 1)),
+        (2, 2, q as u64),
+        (4, 2, t as u64),
+        (6, 2, 0),
+        (8, 4, gone),
+    ]);
+    let slot = (flushes % g.kept) as usize;
+    scribble(rng, table.batch(t, slot, q), at, width, near, keys);
+}
+
+/// Puts a partition in order: its list, its pages, and the total that they come to.
+pub fn mend(table: &mut Table, t: usize) {
+    let g = table.g;
+    let most = (g.page / 16 - 1) as u16;
+    let fit = |page: &mut [u8]| {
+        let count = u16::from_le_bytes([page[0], page[1]]).min(most);
+        page[..2].copy_from_slice(&count.to_le_bytes());
+    };
+    let listed = table.listed(t).min(g.list);
+    table.set_listed(t, listed);
+    let flushes = table.flushes(t);
+    for q in 0..g.pages as usize {
+        fit(table.buffer(t, q));
+        for (number, slot) in live(g, flushes.into()) {
+            let page = table.batch(t, slot, q);
+            fit(page);
+            page[2..8].copy_from_slice(&[q as u8, 0, t as u8, 0, 0, 0]);
+            set_word(page, 8, number as u32);
         }
     }
+    table.recount(t);
 }

@@ -96,6 +96,7 @@ pub fn call(rng: &mut Rng, pair: &mut Pair, keys: &[u64]) -> Call {
         40..=64 => Call::Get(rng.pick(keys)),
         65..=79 => Call::Del(rng.pick(keys)),
         80..=87 => Call::Flush(partition(rng, g)),
+        88..=90 => Call::Count(partition(rng, g)),
         _ => {
             let t = partition(rng, g);
             let page = match rng.below(24) {

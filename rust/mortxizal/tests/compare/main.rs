@@ -10,16 +10,16 @@ mod common;
 mod damage;
 mod draw;
 mod pair;
-mod tally;
 
 use std::env;
 use std::thread;
 
 use common::call::Call;
-use common::{flash_need, memory_need, Rng};
+use common::plain::sum_of_counts;
+use common::tally::Outcome::{self, EndsAbove, EndsBelow, Overcounted, Refused};
+use common::tally::Tally;
+use common::{flash_need, memory_need, Rng, Table};
 use pair::Pair;
-use tally::Outcome::{self, Refused};
-use tally::Tally;
 
 const CALLS: u64 = 10_000_000;
 
@@ -69,13 +69,23 @@ fn run(
     tally.check(|call, outcome| calls >= CALLS && must(call, outcome), may);
 }
 
+/// The partition that the call was about counts what its pages hold.
+fn check_total(table: &Table, call: Call) {
+    let g = table.g;
+    if let Some(t) = call.partition(g).filter(|&t| t < 1 << g.parts) {
+        let sum = sum_of_counts(g, &table.memory, &table.flash, t as usize);
+        assert_eq!(table.count(t), Ok(sum as u32), "{call:?}");
+    }
+}
+
 /// Whatever the areas held: after a format every call is accepted or is refused
-/// for its arguments, a full list or an empty buffer.
+/// for its arguments, a full list or an empty buffer, and totals are right.
 #[test]
 fn sequences_from_a_format() {
     let honest = |call: &str, outcome| match outcome {
         Refused(2 | 3) => call == "format",
         Refused(number) => [1, 4, 14, 15, 17].contains(&number),
+        Overcounted | EndsAbove | EndsBelow => false,
         _ => true,
     };
     run(
@@ -90,13 +100,14 @@ fn sequences_from_a_format() {
                 flash_need(g) + rng.below(40),
             );
             let mut pair = Pair::random(rng, g, memory, flash);
-            tally.count(&mut pair, rng, Call::Format(g));
+            pair.counted(rng, tally, Call::Format(g));
             for _ in 0..draw::length(g) {
                 let call = match rng.below(300) {
                     0 => Call::Format(draw::any_numbers(rng, g)),
                     _ => draw::call(rng, &mut pair, &keys),
                 };
-                tally.count(&mut pair, rng, call);
+                pair.counted(rng, tally, call);
+                check_total(&pair.plain, call);
             }
         },
         honest,
@@ -115,16 +126,18 @@ fn damaged_tables() {
             let number = rng.pick(&[3, 6, 12, 40]);
             let keys = rng.keys(number);
             let mut pair = Pair::random(rng, g, memory_need(g), flash_need(g));
-            tally.count(&mut pair, rng, Call::Format(g));
+            pair.counted(rng, tally, Call::Format(g));
             for _ in 0..rng.below(draw::length(g)) {
                 let call = draw::call(rng, &mut pair, &keys);
-                tally.count(&mut pair, rng, call);
+                pair.counted(rng, tally, call);
             }
             for _ in 0..draw::length(g) / 10 {
                 pair.change(|table| {
-                    // Else an opening that is damaged once would stop every later call.
+                    // Else an opening that is damaged once would stop every later call,
+                    // and a batch or a total every later flush.
                     if rng.one_in(3) {
                         table.memory[..32].copy_from_slice(&g.to_opening());
+                        damage::mend(table, rng.below(1 << g.parts));
                     }
                     for _ in 0..1 + rng.below(3) {
                         damage::damage(rng, table, &keys);
@@ -132,7 +145,7 @@ fn damaged_tables() {
                 });
                 for _ in 0..1 + rng.below(20) {
                     let call = draw::call(rng, &mut pair, &keys);
-                    tally.count(&mut pair, rng, call);
+                    pair.counted(rng, tally, call);
                 }
             }
         },
@@ -161,10 +174,10 @@ fn areas_of_any_length() {
                     1 => Call::Format(draw::any_numbers(rng, g)),
                     _ => draw::call(rng, &mut pair, &keys),
                 };
-                tally.count(&mut pair, rng, call);
+                pair.counted(rng, tally, call);
             }
         },
-        |_, outcome| !matches!(outcome, Refused(12..)),
+        |_, outcome| !matches!(outcome, Refused(12..) | Overcounted | EndsAbove | EndsBelow),
         |_, _| true,
     );
 }

@@ -4,6 +4,7 @@ use mortxizal::raw;
 use mortxizal::{Geometry, Index, Lookup, Place, Refused};
 
 use crate::common::call::{call_index, Answer, Call};
+use crate::common::tally::Tally;
 use crate::common::{Rng, Table};
 
 const GUARD: u8 = 0xe7;
@@ -85,7 +86,7 @@ impl Pair {
         let expected = call_index(call, &mut self.plain.memory, &mut self.plain.flash);
         let (memory, flash) = (self.memory.lend(), self.flash.lend());
         match call {
-            Call::Get(_) | Call::View(..) => {
+            Call::Get(_) | Call::View(..) | Call::Count(_) => {
                 assert_eq!(call_raw(call, memory, flash), told(expected), "{call:?}");
                 check_library(call, memory, flash, expected);
             }
@@ -110,12 +111,18 @@ impl Pair {
         }
         expected
     }
+
+    /// The same, and counts what the call came to.
+    pub fn counted(&mut self, rng: &mut Rng, tally: &mut Tally, call: Call) {
+        let answer = self.call(rng, call);
+        tally.count(call, answer, &self.plain.memory, &self.plain.flash);
+    }
 }
 
 /// An answer in all its fields, as `include/mortxizal.h` tells it.
 fn told(answer: Answer) -> raw::Answer {
     let (status, number, reads, batch, value) = match answer {
-        Answer::Done(pages) => (raw::DONE, pages, 0, 0, 0),
+        Answer::Done(number) | Answer::Counted(number) => (raw::DONE, number, 0, 0, 0),
         Answer::Found(value, reads, batch) => (raw::FOUND, 0, reads, batch, value),
         Answer::None(reads) => (raw::NONE, 0, reads, 0, 0),
         Answer::InMemory(at, size) => (raw::DONE, size as u32, 0, 0, at as u64),
@@ -151,6 +158,7 @@ fn call_raw(call: Call, memory: &mut [u8], flash: &mut [u8]) -> raw::Answer {
         Call::Del(key) => raw::del(memory, flash, key),
         Call::Flush(partition) => raw::flush(memory, flash, partition),
         Call::View(partition, page, flush) => raw::view(memory, flash, partition, page, flush),
+        Call::Count(partition) => raw::count(memory, flash, partition),
     }
 }
 
@@ -173,6 +181,9 @@ fn check_library(call: Call, memory: &mut [u8], flash: &mut [u8], expected: Answ
             let shown = index.view(partition, page, flush);
             shown.map(|shown| check_part(shown, &index, expected))
         }
+        Call::Count(partition) => Index::attach(memory, flash)
+            .count(partition)
+            .map(Answer::Counted),
     };
     let refused = |refused: Refused| Answer::Refused(refused.number(), refused.reads());
     assert_eq!(answer.unwrap_or_else(refused), expected, "{call:?}");

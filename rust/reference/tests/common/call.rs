@@ -1,6 +1,8 @@
-//! The six calls with their arguments and answers as plain data.
+//! The calls with their arguments and answers as plain data.
 
 use reference::{Geometry, Lookup, Place, Refusal};
+
+use super::plain::home;
 
 /// A call with its arguments.
 #[derive(Clone, Copy, Debug, PartialEq, Eq)]
@@ -11,6 +13,18 @@ pub enum Call {
     Del(u64),
     Flush(u32),
     View(u32, u32, u32),
+    Count(u32),
+}
+
+impl Call {
+    /// The partition that the call is about, in a table of this geometry.
+    pub fn partition(self, g: Geometry) -> Option<u32> {
+        match self {
+            Call::Format(_) => None,
+            Call::Put(key, _) | Call::Get(key) | Call::Del(key) => Some(home(g, key).0 as u32),
+            Call::Flush(t) | Call::View(t, ..) | Call::Count(t) => Some(t),
+        }
+    }
 }
 
 /// A call's answer. A view tells where its part begins and how long it is.
@@ -18,6 +32,7 @@ pub enum Call {
 pub enum Answer {
     Refused(u32, u32),
     Done(u32),
+    Counted(u32),
     Found(u64, u32, u32),
     None(u32),
     InMemory(usize, usize),
@@ -33,6 +48,7 @@ pub fn call_index(call: Call, memory: &mut [u8], flash: &mut [u8]) -> Answer {
         Call::Get(key) => reference::get(memory, flash, key).map(lookup),
         Call::Del(key) => reference::del(memory, flash, key).map(|()| Answer::Done(0)),
         Call::Flush(t) => reference::flush(memory, flash, t).map(Answer::Done),
+        Call::Count(t) => reference::count(memory, flash, t).map(Answer::Counted),
         Call::View(t, q, n) => {
             let part = reference::view_part(memory, flash, t, q, n);
             let place = offset(part, memory, flash);

@@ -5,6 +5,7 @@
 pub mod call;
 pub mod oracle;
 pub mod plain;
+pub mod tally;
 
 use reference::{Geometry, Lookup, Place, Refusal};
 
@@ -181,6 +182,10 @@ impl Table {
         reference::view(&self.memory, &self.flash, partition, page, number)
     }
 
+    pub fn count(&self, partition: u32) -> Result<u32, Refusal> {
+        reference::count(&self.memory, &self.flash, partition)
+    }
+
     fn partition_at(&self, t: usize) -> usize {
         32 + t * partition_bytes(self.g)
     }
@@ -204,6 +209,16 @@ impl Table {
 
     pub fn set_listed(&mut self, t: usize, number: u32) {
         set_word(self.head(t), 4, number);
+    }
+
+    pub fn set_total(&mut self, t: usize, number: u32) {
+        set_word(self.head(t), 8, number);
+    }
+
+    /// Sets the total to the sum of the page counts.
+    pub fn recount(&mut self, t: usize) {
+        let sum = plain::sum_of_counts(self.g, &self.memory, &self.flash, t);
+        self.set_total(t, sum as u32);
     }
 
     pub fn list_place(&mut self, t: usize, i: usize) -> &mut [u8] {
@@ -241,7 +256,21 @@ impl Table {
         &mut self.flash[at..at + p]
     }
 
-    /// Fills a page with a count and entries by hand.
+    /// Has the partition done so many flushes, each of a buffer without entries:
+    /// the pages of its live batches are in order.
+    pub fn set_batches(&mut self, t: usize, flushes: u32) {
+        self.set_flushes(t, flushes);
+        for (number, slot) in plain::live(self.g, flushes.into()) {
+            for q in 0..self.g.pages as usize {
+                let page = self.batch(t, slot, q);
+                page.fill(0);
+                (page[2], page[4]) = (q as u8, t as u8);
+                set_word(page, 8, number as u32);
+            }
+        }
+    }
+
+    /// Fills a page with a count and entries by hand. The total stays.
     pub fn fill_buffer(&mut self, t: usize, q: usize, entries: &[(u64, u64)]) {
         let page = self.buffer(t, q);
         page[0] = entries.len() as u8;

@@ -34,6 +34,7 @@ pub fn call_oracle(call: Call, memory: &mut [u8], flash: &mut [u8]) -> Answer {
             Call::Del(key) => del(g, memory, key),
             Call::Flush(t) => flush(g, memory, flash, t),
             Call::View(t, q, n) => view(g, memory, flash, t, q, n),
+            Call::Count(t) => count(g, memory, t),
             Call::Format(_) => unreachable!(),
         }),
     };
@@ -54,6 +55,7 @@ fn format(g: Geometry, memory: &mut [u8], flash: &[u8]) -> Result<Answer, Answer
         let partition = Partition {
             flushes: 0,
             listed: 0,
+            total: 0,
             last: 0,
             list: vec![(0, 0); g.list as usize],
             filters: vec![vec![false; g.bits as usize]; g.kept as usize],
@@ -75,14 +77,34 @@ fn open(memory: &[u8], flash: &[u8]) -> Result<Geometry, Answer> {
     Ok(g)
 }
 
-/// The flush that has passed every check but 16.
-fn write_batch(
+/// Refusals 16, 13 and the last 12 of a flush with so many entries appended
+/// after it: the total that the call ends with.
+fn judge_flush(
     g: Geometry,
-    partition: &mut Partition,
-    flash: &mut [u8],
+    partition: &Partition,
+    flash: &[u8],
     t: usize,
-) -> Result<(), Answer> {
+    appended: i128,
+) -> Result<i128, Answer> {
     check(partition.flushes < 4294967295, 16)?;
+    let mut total = partition.total + appended;
+    let gone = partition.flushes + 1 - i128::from(g.kept);
+    if gone > 0 {
+        let slot = ((gone - 1) % i128::from(g.kept)) as usize;
+        for q in 0..g.pages as usize {
+            let page = read_page(&flash[flash_at(g, t, slot, q)..][..g.page as usize]);
+            if !expected(g, &page, t, q, gone) {
+                return Err(Answer::Refused(13, q as u32 + 1));
+            }
+            total -= i128::from(page.count);
+        }
+    }
+    check(total_fits(g, total), 12)?;
+    Ok(total)
+}
+
+/// The flush that has passed every check.
+fn write_batch(g: Geometry, partition: &mut Partition, flash: &mut [u8], t: usize) {
     let number = partition.flushes + 1;
     let slot = ((number - 1) % i128::from(g.kept)) as usize;
     partition.filters[slot] = vec![false; g.bits as usize];
@@ -102,7 +124,6 @@ fn write_batch(
     let places: Vec<usize> = (0..partition.listed as usize).filter(stamped).collect();
     partition.listed = take_out(&mut partition.list, partition.listed, &places);
     partition.flushes = number;
-    Ok(())
 }
 
 fn put(
@@ -116,7 +137,7 @@ fn put(
     let (t, q) = home(g, key);
     let mut partition = read_partition(g, memory, t);
     check(
-        partition.listed <= g.list.into() && fits(g, &partition.buffer[q]),
+        head_fits(g, &partition) && fits(g, &partition.buffer[q]),
         12,
     )?;
     let mut written = 0;
@@ -125,8 +146,12 @@ fn put(
     } else {
         if partition.buffer[q].count == u64::from(g.page) / 16 - 1 {
             check(partition.buffer.iter().all(|page| fits(g, page)), 12)?;
-            write_batch(g, &mut partition, flash, t)?;
+            partition.total = judge_flush(g, &partition, flash, t, 1)?;
+            write_batch(g, &mut partition, flash, t);
             written = g.pages;
+        } else {
+            partition.total += 1;
+            check(total_fits(g, partition.total), 12)?;
         }
         let page = &mut partition.buffer[q];
         page.entries[page.count as usize] = (key, value);
@@ -143,7 +168,7 @@ fn get(g: Geometry, memory: &[u8], flash: &[u8], key: u64) -> Result<Answer, Ans
     let (t, q) = home(g, key);
     let partition = read_partition(g, memory, t);
     let page = &partition.buffer[q];
-    check(partition.listed <= g.list.into() && fits(g, page), 12)?;
+    check(head_fits(g, &partition) && fits(g, page), 12)?;
     if find(&partition.list, partition.listed, key).is_some() {
         return Ok(Answer::None(0));
     }
@@ -168,7 +193,7 @@ fn del(g: Geometry, memory: &mut [u8], key: u64) -> Result<Answer, Answer> {
     let (t, q) = home(g, key);
     let mut partition = read_partition(g, memory, t);
     check(
-        partition.listed <= g.list.into() && fits(g, &partition.buffer[q]),
+        head_fits(g, &partition) && fits(g, &partition.buffer[q]),
         12,
     )?;
     if find(&partition.list, partition.listed, key).is_some() {
@@ -178,6 +203,8 @@ fn del(g: Geometry, memory: &mut [u8], key: u64) -> Result<Answer, Answer> {
     check(youngest.is_none() || partition.listed < g.list.into(), 14)?;
     let page = &mut partition.buffer[q];
     if let Some(i) = find(&page.entries, page.count, key) {
+        partition.total -= 1;
+        check(total_fits(g, partition.total), 12)?;
         page.count = take_out(&mut page.entries, page.count, &[i]);
     }
     if let Some((number, _)) = youngest {
@@ -192,11 +219,19 @@ fn flush(g: Geometry, memory: &mut [u8], flash: &mut [u8], t: u32) -> Result<Ans
     check(t < 1 << g.parts, 4)?;
     let mut partition = read_partition(g, memory, t as usize);
     let fit = partition.buffer.iter().all(|page| fits(g, page));
-    check(partition.listed <= g.list.into() && fit, 12)?;
+    check(head_fits(g, &partition) && fit, 12)?;
     check(partition.buffer.iter().any(|page| page.count > 0), 15)?;
-    write_batch(g, &mut partition, flash, t as usize)?;
+    partition.total = judge_flush(g, &partition, flash, t as usize, 0)?;
+    write_batch(g, &mut partition, flash, t as usize);
     write_partition(g, memory, t as usize, &partition);
     Ok(Answer::Done(g.pages))
+}
+
+fn count(g: Geometry, memory: &[u8], t: u32) -> Result<Answer, Answer> {
+    check(t < 1 << g.parts, 4)?;
+    let partition = read_partition(g, memory, t as usize);
+    check(head_fits(g, &partition), 12)?;
+    Ok(Answer::Counted(partition.total as u32))
 }
 
 fn view(
@@ -210,7 +245,7 @@ fn view(
     check(t < 1 << g.parts && q < g.pages, 4)?;
     let (t, q, size) = (t as usize, q as usize, g.page as usize);
     let partition = read_partition(g, memory, t);
-    check(partition.listed <= g.list.into(), 12)?;
+    check(head_fits(g, &partition), 12)?;
     if n == 0 {
         check(fits(g, &partition.buffer[q]), 12)?;
         let at = 32 + (t + 1) * length(g) - (g.pages as usize - q) * size;

@@ -17,6 +17,7 @@ pub struct Page {
 pub struct Partition {
     pub flushes: i128,
     pub listed: u64,
+    pub total: i128,
     pub last: u64,
     pub list: Vec<(u64, u64)>,
     pub filters: Vec<Vec<bool>>,
@@ -89,7 +90,8 @@ pub fn read_partition(g: Geometry, memory: &[u8], t: usize) -> Partition {
     Partition {
         flushes: i128::from(number(&bytes[0..4])),
         listed: number(&bytes[4..8]),
-        last: number(&bytes[8..16]),
+        total: i128::from(number(&bytes[8..12])),
+        last: number(&bytes[12..16]),
         list: records(&bytes[16..filters_at]),
         filters: bytes[filters_at..buffer_at]
             .chunks(g.bits as usize / 8)
@@ -106,7 +108,8 @@ pub fn write_partition(g: Geometry, memory: &mut [u8], t: usize, partition: &Par
     let mut bytes = Vec::new();
     push(&mut bytes, partition.flushes as u64, 4);
     push(&mut bytes, partition.listed, 4);
-    push(&mut bytes, partition.last, 8);
+    push(&mut bytes, partition.total as u64, 4);
+    push(&mut bytes, partition.last, 4);
     for &(key, rest) in &partition.list {
         push(&mut bytes, key, 8);
         push(&mut bytes, rest, 8);
@@ -173,15 +176,46 @@ pub fn fits(g: Geometry, page: &Page) -> bool {
     page.count <= most
 }
 
-/// The live batches whose filter passes, youngest first, with their slots.
-pub fn passing(g: Geometry, partition: &Partition, key: u64) -> Vec<(i128, usize)> {
-    let f = partition.flushes;
+/// The entries that fit a partition's live batches and its buffer.
+pub fn most_entries(g: Geometry) -> u32 {
+    (g.kept + 1) * g.pages * (g.page / 16 - 1)
+}
+
+/// Whether a total is one that a partition may have.
+pub fn total_fits(g: Geometry, total: i128) -> bool {
+    (0..=i128::from(most_entries(g))).contains(&total)
+}
+
+/// Whether the head counts no more than fits.
+pub fn head_fits(g: Geometry, partition: &Partition) -> bool {
+    partition.listed <= g.list.into() && total_fits(g, partition.total)
+}
+
+/// The live batches after so many flushes, youngest first, with their slots.
+pub fn live(g: Geometry, f: i128) -> impl Iterator<Item = (i128, usize)> {
     let live = f.min(g.kept.into());
     (f - live + 1..=f)
         .rev()
-        .map(|n| (n, ((n - 1) % i128::from(g.kept)) as usize))
+        .map(move |n| (n, ((n - 1) % i128::from(g.kept)) as usize))
+}
+
+/// The live batches whose filter passes, youngest first, with their slots.
+pub fn passing(g: Geometry, partition: &Partition, key: u64) -> Vec<(i128, usize)> {
+    live(g, partition.flushes)
         .filter(|&(_, slot)| bits(g, key).iter().all(|&b| partition.filters[slot][b]))
         .collect()
+}
+
+/// The sum of the counts of a partition's buffer pages and of the pages of its
+/// live batches, as they stand in the areas.
+pub fn sum_of_counts(g: Geometry, memory: &[u8], flash: &[u8], t: usize) -> u64 {
+    let (pages, size) = (g.pages as usize, g.page as usize);
+    let end = 32 + (t + 1) * length(g);
+    let counts = |bytes: &[u8]| -> u64 { bytes.chunks(size).map(|page| number(&page[..2])).sum() };
+    let flushes = i128::from(number(&memory[end - length(g)..][..4]));
+    let batches =
+        live(g, flushes).map(|(_, slot)| &flash[flash_at(g, t, slot, 0)..][..pages * size]);
+    counts(&memory[end - pages * size..end]) + batches.map(counts).sum::<u64>()
 }
 
 pub fn flash_at(g: Geometry, t: usize, slot: usize, q: usize) -> usize {

@@ -5,7 +5,7 @@ use mathlib.Core.List.{List}
 use Rattle.figures.proofs.Steps.{known}
 use Rattle.reader.proofs.Forms.{first-call}
 use Rattle.reader.specs.Forms.{formCall}
-use Rattle.model.specs.Session.{putLine, getLine, delLine, callOf}
+use Rattle.model.specs.Session.{putLine, getLine, delLine, flushLine, callOf}
 use mathlib.Core.Option.{none}
 use borrow.Author.Needs.{needs}
 use Rattle.reader.proofs.read.read_line.Statement.{statement}
@@ -23,6 +23,9 @@ no-get c = known formCall (c .before .before .read-get .ensures) (c .enum-told2 
 
 no-del : (c : tie.After-enum-told3) → delLine (line (c .before .before .before .before .before .before)) ≡ none
 no-del c = known formCall (c .before .before .read-del .ensures) (c .enum-told3 .given .1)
+
+no-flush : (c : tie.After-enum-told4) → flushLine (line (c .before .before .before .before .before .before .before .before .before)) ≡ none
+no-flush c = known formCall (c .before .before .read-flush .ensures) (c .enum-told4 .given .1)
 
 returns : tie.Need-returns
 unfolding callOf
@@ -43,8 +46,15 @@ returns-4 c = rw (no-put (c .before .before .before .before .before .before .bef
 returns-5 : tie.Need-returns-5
 unfolding callOf
 returns-5 c =
-    let third = c .before .before .before .before in
-    rw (no-put (third .before .before .before .before .before .before), no-get (third .before .before .before), no-del third, known formCall (c .before .before .before .read-flush .ensures) (c .before .enum-told4 .given .1)) (c .read-format .ensures)
+    let third = c .before .before .before .before .before in
+    rw (no-put (third .before .before .before .before .before .before), no-get (third .before .before .before), no-del third, no-flush (c .before .before)) (first-call (c .before .read-count .result) _ (c .before .read-count .ensures) (c .match5 .keys2))
+
+returns-6 : tie.Need-returns-6
+unfolding callOf
+returns-6 c =
+    let fourth = c .before .before .before .before in
+    let third = fourth .before .before .before in
+    rw (no-put (third .before .before .before .before .before .before), no-get (third .before .before .before), no-del third, no-flush fourth, known formCall (c .before .before .before .read-count .ensures) (c .before .enum-told5 .given .1)) (c .read-format .ensures)
 
 pub read-line-spec : {M : Type 1} → statement M
-read-line-spec = tie.close (tie.spec (λ c κs. search needs) (λ c. search needs) returns (λ c κs. search needs) (λ c. search needs) returns-2 (λ c κs. search needs) (λ c. search needs) returns-3 (λ c κs. search needs) (λ c. search needs) returns-4 (λ c κs. search needs) returns-5)
+read-line-spec = tie.close (tie.spec (λ c κs. search needs) (λ c. search needs) returns (λ c κs. search needs) (λ c. search needs) returns-2 (λ c κs. search needs) (λ c. search needs) returns-3 (λ c κs. search needs) (λ c. search needs) returns-4 (λ c κs. search needs) (λ c. search needs) returns-5 (λ c κs. search needs) returns-6)

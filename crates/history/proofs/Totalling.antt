@@ -1,0 +1,101 @@
+-- Bytes that show a partition: what they say of its entries, and that a change of the head's total shows the same partition.
+use Prim.Native.Nat.{ℕ, suc, _+_, _-_, _^_, _<_}
+use mathlib.Core.Bool.{Bool, true, false}
+use mathlib.Core.Path.{_≡_, sym, _∙_, ap, ap₂}
+use mathlib.Core.List.{List}
+use mathlib.Core.Option.{none}
+use native.Mathlib.Omega.{arith}
+use native.Mathlib.Nat.{zero-add}
+use lib.Dec.{leb}
+use lib.ListN.{length}
+use Rattle.model.specs.declared.Geometry.{Geometry}
+use Rattle.model.specs.Search.{firstFrom}
+use Rattle.model.specs.Geometry.{allowed}
+use Rattle.model.specs.Keys.{pageOf}
+use Rattle.model.specs.Page.{added, taken}
+use Rattle.model.specs.Partition.{Head, headOf, totalled, flushesOf, totalOf, live}
+use Rattle.model.specs.Batch.{batchPage, entriesOf, sum, pushesOut, oldest, failedHead, dropped}
+use Rattle.model.specs.Put.{due, appends}
+use Rattle.model.specs.Del.{removes}
+use Rattle.model.proofs.Sizes.{sizes, page-of-lt}
+use Rattle.model.proofs.Tests.{numbers, either}
+use Rattle.model.proofs.Sums.{sum-same}
+use Rattle.model.proofs.Searching.{first-behind, first-end}
+use Rattle.model.proofs.Heads.{words-totalled, live-totalled}
+use Rattle.model.proofs.PartitionsCalls.{laid-totalled}
+use Rattle.history.specs.Claim.{entriesHeld}
+use Rattle.history.proofs.Table.{Part, Live, due as dueIn}
+use Rattle.history.proofs.Core.{PartOk}
+use Rattle.history.proofs.Totals.{entriesAt, entriesAll, droppedIn, addedIn, removedIn, all-parts, batch-of-age}
+use Rattle.history.proofs.Pages.{page-has, page-count, page-expected}
+use Rattle.history.proofs.Shows.{ShowsPart, shows-laid, list-has}
+
+-- no number passes the test
+first-fails : (n : ℕ) (test : ℕ → Bool) → ((q : ℕ) → q < n → test q ≡ false) → firstFrom n 0 test ≡ none
+first-fails n test h = first-behind test n 0 n (λ j l. rw zero-add (h j l)) (omega arith) ∙ rw zero-add (first-end test n n (omega arith))
+
+module _ (g : Geometry) (ok : allowed g ≡ true) (t : ℕ) (p f : List ℕ) (s : Part) (shows : ShowsPart g t p f s) where
+  -- when a put of the key flushes; the entry that it adds, and the one that a del of it takes out of the buffer
+  module _ (k : ℕ) where
+    pub due-shown : due g k p ≡ dueIn g k s
+    unfolding due dueIn
+    due-shown = let page = shows .buffer (pageOf g k) (page-of-lt g ok k) in rw (page-has page k, page-count page)
+
+    pub appends-shown : appends g k p ≡ addedIn g k s
+    unfolding appends added addedIn
+    appends-shown = rw (page-has (shows .buffer (pageOf g k) (page-of-lt g ok k)) k)
+
+    pub removes-shown : removes g k p ≡ removedIn g k s
+    unfolding removes taken removedIn
+    removes-shown = rw (list-has shows k, page-has (shows .buffer (pageOf g k) (page-of-lt g ok k)) k)
+
+  module _ (part : PartOk g s) where
+    -- a live batch's pages count its entries
+    batch-count : (n : ℕ) → Live s n → entriesOf (batchPage g t f n) (g .pages) ≡ sum (g .pages) (λ q. length (s .batch n q))
+    batch-count n live = sum-same (g .pages) _ _ (λ q l. page-count (shows .batch n live q l .page))
+
+    -- all page counts together
+    pub held-shown : entriesHeld g t p f ≡ entriesAll g s
+    unfolding entriesHeld
+    held-shown = ap₂ _+_ (sum-same (g .pages) _ _ (λ q l. page-count (shows .buffer q l))) batches ∙ sym (all-parts g s)
+      where
+        batches : sum (live g (headOf p)) (λ i. entriesOf (batchPage g t f (flushesOf p - i)) (g .pages)) ≡ sum (s .live) (λ i. entriesAt g s (suc i))
+        batches =
+            rw (shows .live, shows .flushes)
+            (sum-same (s .live) _ _ (λ i l. batch-count (s .flushes - i)
+            (record { first = omega (arith, part .liveFlushed); flushed = omega arith; near = omega (arith, part .liveFlushed) })))
+
+    -- the batch that a flush pushes out
+    pushes-shown : pushesOut g (headOf p) ≡ leb (g .kept) (s .live)
+    unfolding pushesOut
+    pushes-shown = rw (shows .live)
+
+    oldest-live : leb (g .kept) (s .live) ≡ true → Live s (oldest g (headOf p))
+    oldest-live full = rw (shows .flushes) (record {
+      first = omega (numbers, part .liveFlushed);
+      flushed = omega (arith, sizes g ok .kept-min);
+      near = omega (numbers, part .liveFlushed);
+    })
+
+    oldest-entries : sum (g .pages) (λ q. length (s .batch (oldest g (headOf p)) q)) ≡ entriesAt g s (g .kept)
+    oldest-entries = rw (shows .flushes) (sum-same (g .pages) _ _ (λ q l. ap length (sym (batch-of-age g s (g .kept) q (sizes g ok .kept-min)))))
+
+    pub dropped-shown : dropped g t p f ≡ droppedIn g s
+    unfolding dropped droppedIn
+    dropped-shown = rw pushes-shown (either (leb (g .kept) (s .live)) (λ full. rw full (batch-count _ (oldest-live full) ∙ oldest-entries)) (λ few. rw few))
+
+    pub heads-shown : failedHead g t p f ≡ none
+    unfolding failedHead
+    heads-shown = rw pushes-shown (either (leb (g .kept) (s .live))
+        (λ full. rw full (first-fails (g .pages) _ (λ q l. let page = shows .batch _ (oldest-live full) q l in rw (page-expected (page .page) _ (page .flush)))))
+        (λ few. rw few))
+
+  -- another total
+  module _ (more less : ℕ) (small : totalOf p + more - less < 2 ^ 32) where
+    pub shows-totalled : ShowsPart g t (totalled more less p) f s
+    shows-totalled = shows-laid ok (laid-totalled g ok p (shows .long) (shows .words) more less small)
+        (words-totalled more less (headOf p) (shows .words) small) (shows .flushes) (live-totalled g more less (headOf p) ∙ shows .live) (shows .list)
+        (shows .buffer) (shows .batch) (shows .filter)
+
+    pub total-totalled : totalOf (totalled more less p) ≡ totalOf p + more - less
+    total-totalled = ap (λ (h : Head). h .total) (laid-totalled g ok p (shows .long) (shows .words) more less small .head)

@@ -1,0 +1,86 @@
+-- From what was read of the batch that a flush pushes out to what the flush does.
+use Prim.Native.Nat.{ℕ, _+_, _-_, _≤_, _<_}
+use mathlib.Core.Bool.{Bool, true, false}
+use mathlib.Core.List.{List}
+use mathlib.Core.Option.{Option, none, some}
+use mathlib.Core.Path.{_≡_, refl, sym, _∙_, ap}
+use native.Mathlib.Nat.{add-mod-right}
+use native.Mathlib.Omega.{arith}
+use borrow.Author.Tests.{le-leb, lt-leb}
+use Rattle.model.specs.declared.Geometry.{Geometry}
+use Rattle.model.specs.Partition.{headOf, flushesOf, slot, live}
+use Rattle.model.specs.Batch.{pushesOut, oldest, failedHead, dropped}
+use Rattle.model.specs.Answers.{unread}
+use Rattle.model.specs.Refusals.{refuseIf, refuseHead, totalOut, lastFlush}
+use Rattle.model.specs.Answers as model
+use Rattle.model.specs.Flush.{dueChecks}
+use Rattle.model.proofs.Checks.{due-16, due-read}
+use Rattle.answers.specs.declared.Refusal.{Refusal}
+use Rattle.answers.specs.Told.{asRefusal, ofRefusal}
+use Rattle.outgoing.specs.declared.Leaving.{Leaving}
+use Rattle.outgoing.specs.declared.Leaving.the-variants.{Refused, Entries}
+use Rattle.outgoing.specs.Leaving.{leavingWith, headsOf, outgoingOf, leavingFor}
+
+-- ---- what is done tells the checks
+pub refused-by : (o : Option model.Refusal) (n : ℕ) (r : Refusal) → leavingWith o n ≡ Refused r → o ≡ some (asRefusal r)
+refused-by none n r e = let z : _≡_ {A = ℕ} 0 1 = cc in absurd (omega arith)
+refused-by (some x) n r e = let same : ofRefusal x ≡ r = cc in ap (λ (y : Refusal). some (asRefusal y)) same
+
+pub passed-with : (o : Option model.Refusal) (n m : ℕ) → leavingWith o n ≡ Entries m → (o ≡ none) × (m ≡ n)
+passed-with none n m e = (refl, cc)
+passed-with (some x) n m e = let z : _≡_ {A = ℕ} 0 1 = cc in absurd (omega arith)
+
+-- ---- batch F + 1 takes the slot of the one that it pushes out
+pub slot-again : (g : Geometry) (F : ℕ) → g .kept ≤ F → slot g (F + 1) ≡ slot g (F - g .kept + 1)
+slot-again g F l =
+    let new : F + 1 - 1 ≡ F - g .kept + g .kept = omega arith in
+    let old : F - g .kept + 1 - 1 ≡ F - g .kept = omega arith in
+    rw (new, old) (add-mod-right (F - g .kept) (g .kept))
+
+module _ (g : Geometry) (t : ℕ) (p f : List ℕ) where
+  -- ---- fewer than K are live: nothing leaves; otherwise the oldest does
+  pub none-out : live g (headOf p) < g .kept → Entries 0 ≡ outgoingOf g t p f
+  unfolding outgoingOf failedHead dropped pushesOut
+  none-out l = rw (lt-leb (g .kept) (live g (headOf p)) l)
+
+  pub oldest-out : g .kept ≤ live g (headOf p) → (n : ℕ) → n ≡ oldest g (headOf p) → (r : Leaving) → r ≡ headsOf g t n f → r ≡ outgoingOf g t p f
+  unfolding headsOf outgoingOf failedHead dropped pushesOut
+  oldest-out l n en r e = e ∙ rw (le-leb (g .kept) (live g (headOf p)) l, en)
+
+  -- ---- 16, then what was read, then the total
+  module _ (more : ℕ) where
+    pub no-number : flushesOf p ≡ lastFlush → Refused (ofRefusal (unread 16)) ≡ leavingFor g t more p f
+    unfolding leavingFor
+    no-number e = rw (due-16 g t more p f e)
+
+    module _ (number : flushesOf p ≡ lastFlush → ⊥) where
+      abbrev later : Option model.Refusal
+      later = refuseIf (totalOut g more (dropped g t p f) (headOf p)) 12 none
+
+      read : leavingFor g t more p f ≡ leavingWith (refuseHead (failedHead g t p f) later) (dropped g t p f)
+      unfolding leavingFor
+      read = rw (due-read g t more p f number)
+
+      pub head-fails : (r : Refusal) → outgoingOf g t p f ≡ Refused r → Refused r ≡ leavingFor g t more p f
+      unfolding outgoingOf
+      head-fails r e = sym (read ∙ go (failedHead g t p f) e)
+        where
+          go : (o : Option ℕ) → leavingWith (refuseHead o none) (dropped g t p f) ≡ Refused r → leavingWith (refuseHead o later) (dropped g t p f) ≡ Refused r
+          go none e = let z : _≡_ {A = ℕ} 0 1 = cc in absurd (omega arith)
+          go (some q) e = e
+
+      -- all heads are as expected, and count so many entries
+      module _ (less : ℕ) (e : outgoingOf g t p f ≡ Entries less) where
+        all-sound : (failedHead g t p f ≡ none) × (dropped g t p f ≡ less)
+        unfolding outgoingOf
+        all-sound = go (failedHead g t p f) refl e
+          where
+            go : (o : Option ℕ) → failedHead g t p f ≡ o → leavingWith (refuseHead o none) (dropped g t p f) ≡ Entries less → (failedHead g t p f ≡ none) × (dropped g t p f ≡ less)
+            go none o x = (o, cc)
+            go (some q) o x = let z : _≡_ {A = ℕ} 0 1 = cc in absurd (omega arith)
+
+        pub total-wrong : totalOut g more less (headOf p) ≡ true → Refused (ofRefusal (unread 12)) ≡ leavingFor g t more p f
+        total-wrong x = sym (read ∙ rw (all-sound .0, all-sound .1, x))
+
+        pub total-right : totalOut g more less (headOf p) ≡ false → Entries less ≡ leavingFor g t more p f
+        total-right x = sym (read ∙ rw (all-sound .0, all-sound .1, x))

@@ -1,0 +1,31 @@
+-- What a flush that is due does, from its checks and from the entries that it drops.
+use Prim.Native.Nat.{ℕ}
+use mathlib.Core.Bool.{not}
+use mathlib.Core.List.{List}
+use mathlib.Core.Option.{Option, none, some}
+use Rattle.model.specs.declared.Geometry.{Geometry}
+use Rattle.model.specs.Search.{firstFrom}
+use Rattle.model.specs.Page.{expected}
+use Rattle.model.specs.Batch.{batchPage, entriesOf, failedHead, dropped}
+use Rattle.model.specs.Answers.{Refusal}
+use Rattle.model.specs.Refusals.{refuseHead}
+use Rattle.model.specs.Flush.{dueChecks}
+use Rattle.answers.specs.Told.{ofRefusal}
+use Rattle.outgoing.specs.declared.Leaving.{Leaving}
+use Rattle.outgoing.specs.declared.Leaving.the-variants.{Refused, Entries}
+
+abbrev pub leavingWith : Option Refusal → ℕ → Leaving
+leavingWith (some r) entries = Refused (ofRefusal r)
+leavingWith none entries = Entries entries
+
+-- of batch n: 13 at the first head that is not the one expected, or its entries
+unfoldable pub headsOf : Geometry → ℕ → ℕ → List ℕ → Leaving
+headsOf g t n f =
+    leavingWith (refuseHead (firstFrom (g .pages) 0 (λ q. not (expected g t n q (batchPage g t f n q)))) none) (entriesOf (batchPage g t f n) (g .pages))
+
+-- of the batch that a flush pushes out
+unfoldable pub outgoingOf : Geometry → ℕ → List ℕ → List ℕ → Leaving
+outgoingOf g t p f = leavingWith (refuseHead (failedHead g t p f) none) (dropped g t p f)
+
+unfoldable pub leavingFor : Geometry → ℕ → ℕ → List ℕ → List ℕ → Leaving
+leavingFor g t more p f = leavingWith (dueChecks g t more p f) (dropped g t p f)
