@@ -33,7 +33,7 @@ fn move_batch(part: &mut [u8], flash: &mut [u8], g: Geometry, t: u32, n: u32, j:
     }
 }
 
-// The partition and flash after the flush, whose batch goes to slot j. A call has found the slot for the outgoing batch, so it is handed on: LLVM then divides once.
+// The partition and flash after the flush, whose batch goes to slot j. The slot is found by the caller: in a put LLVM then divides once, for this and for the outgoing batch.
 pub fn apply(part: &mut [u8], flash: &mut [u8], g: Geometry, t: u32, j: u32)
     requires { ⌜ Whole g (now part) ⌝ }
     requires { ⌜ Flushable g t (now part) ⌝ }

@@ -52,10 +52,10 @@ fn read_outgoing(part: &[u8], flash: &[u8], g: Geometry, t: u32) -> Leaving
     ensures { λ r. ⌜ r ≡ outgoingOf g t (now (part .entry)) (now (flash .entry)) ⌝ }
 {
     let head = Head::read(part);
+    let j = geometry::slot_of(g, head.flushes + 1);
     if head.live(g) < g.kept {
         return Leaving::Entries(0);
     }
-    let j = geometry::slot_of(g, head.flushes + 1);
     read_heads(flash, g, t, head.flushes - g.kept + 1, j)
 }
 
