@@ -1,7 +1,7 @@
 // One page of a batch, in flash: written with its flush number, and its head examined.
 ghost use mathlib.Core.Bool.{true};
 ghost use mathlib.Core.Path.{_≡_};
-ghost use Prim.Native.Nat.{_+_, _≤_};
+ghost use Prim.Native.Nat.{_+_, _%_, _≤_};
 ghost use lib.ListN.{length};
 ghost use Rattle.model.specs.Bytes.{mid, within};
 ghost use Rattle.model.specs.Geometry.{allowed};
@@ -12,7 +12,8 @@ use model::Geometry;
 pub fn copy_numbered(dst: &mut [u8], at: usize, src: &[u8], from: usize, size: usize, flush: u32)
     requires { ⌜ at + size ≤ length (now dst) ⌝ }
     requires { ⌜ from + size ≤ length (now src) ⌝ }
-    requires { ⌜ 16 ≤ size ⌝ }
+    requires { ⌜ 64 ≤ size ⌝ }
+    requires { ⌜ size % 64 ≡ 0 ⌝ }
     ensures { λ _. ⌜ now (dst .exit) ≡ within at size (λ _. numbered flush (mid from size (now (src .entry)))) (now (dst .entry)) ⌝ }
 {
     words::copy(dst, at, src, from, size);

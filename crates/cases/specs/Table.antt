@@ -3,14 +3,16 @@ use Prim.Native.Nat.{ℕ}
 use Prim.Native.String.{String}
 use mathlib.Core.Path.{_≡_}
 use mathlib.Core.List.{List, [], _∷_, _++_, map}
-use lib.ListN.{take}
+use mathlib.Core.Option.{Option, none, some}
+use lib.ListN.{take, drop}
 use Rattle.model.specs.declared.Geometry.{Geometry}
 use Rattle.model.specs.Bytes.{write, zeros}
 use Rattle.model.specs.Geometry.{geometry, G, capacity, memoryNeed, flashNeed}
 use Rattle.model.specs.Keys.{mixed, pageOf, bitOf}
 use Rattle.model.specs.Page.{countOf}
-use Rattle.model.specs.Partition.{listedOf, bufferOf}
-use Rattle.model.specs.Answers.{Areas, Answer, done, found, absent, shown, refused}
+use Rattle.model.specs.Partition.{listedOf, bufferOf, partition}
+use Rattle.model.specs.Flush.{pageChecks, withBatchPage}
+use Rattle.model.specs.Answers.{Areas, Refusal, Answer, done, found, absent, shown, refused}
 use Rattle.model.specs.Text.{text}
 use Rattle.model.specs.Session.{linesOf, programAreas, linesPrint}
 use Rattle.model.specs.Calls.{Call, format, put, get, del, flush, count, partitionIn, reply, run, replies}
@@ -83,6 +85,22 @@ puttingZero memory f = changed memory (take f) [] (put 1 0)
 abbrev pub withTotal : ℕ → List Call → Call → List ℕ
 withTotal n = changed (write 4 n 40) (λ f. f)
 
+-- memory's partition 0 after a format with G and two puts, changed so
+unfoldable pub twoPut : (List ℕ → List ℕ) → List ℕ
+twoPut memory = partition G 0 (memory (run (areas 144 128) (format G ∷ put 1 10 ∷ put 2 20 ∷ []) .memory))
+
+-- the slots' pages after its page is written, where all flash bytes were 7: the first bytes of each
+unfoldable pub written : (List ℕ → List ℕ) → List (List ℕ)
+written memory = let f = withBatchPage G 0 (twoPut memory) 0 (map (λ _. 7) (zeros 128)) in take 20 f ∷ take 20 (drop 64 f) ∷ []
+
+abbrev pub refusal : Option Refusal → List ℕ
+refusal none = ok 0
+refusal (some r) = refusedWith (r .number) (r .reads)
+
+-- what is checked before: page q of partition t
+unfoldable pub writing : (List ℕ → List ℕ) → ℕ → ℕ → List ℕ
+writing memory t q = refusal (pageChecks G t q (twoPut memory))
+
 -- six keys that differ only above bit 16: the low 16 bits have the number of one stream
 abbrev pub stream : List ℕ
 stream = 0x9e3779b97f4a0007 ∷ 0x3c6ef372fe940007 ∷ 0xdaa66d2c7dde0007 ∷ 0x78dde6e5fd280007 ∷ 0x1715609f7c740007 ∷ 0xb54cda58fbbe0007 ∷ []
@@ -129,6 +147,26 @@ numbers given paper = record { given = given ∷ []; paper = paper ∷ [] }
 abbrev pub answers : List (List ℕ) → List (List ℕ) → Row
 answers given paper = record { given = given; paper = paper }
 
+-- a page's head of this count and flush number, and the low half of key 1
+abbrev pub headed : ℕ → ℕ → List ℕ
+headed n number = n ∷ 0 ∷ 0 ∷ 0 ∷ 0 ∷ 0 ∷ 0 ∷ 0 ∷ number ∷ 0 ∷ 0 ∷ 0 ∷ 0 ∷ 0 ∷ 0 ∷ 0 ∷ 1 ∷ 0 ∷ 0 ∷ 0 ∷ []
+
+abbrev pub untouched : List ℕ
+untouched = take 20 (map (λ _. 7) (zeros 20))
+
+-- job 4
+unfoldable pub writes : List Row
+writes =
+    -- the buffer page with the flush number 1 in slot 0; where a flush is done, with 2 in slot 1; the other slot stays
+    answers (written (λ m. m)) (headed 2 1 ∷ untouched ∷ [])
+    ∷ answers (written (write 4 1 32)) (untouched ∷ headed 2 2 ∷ [])
+    -- a page that counts 4, above E, is written too
+    ∷ answers (written (write 2 4 80)) (headed 4 1 ∷ untouched ∷ [])
+    -- 4 and 16, and no 12
+    ∷ answers (writing (λ m. m) 0 0 ∷ writing (λ m. m) 1 0 ∷ writing (λ m. m) 0 1 ∷ writing (write 4 4294967295 32) 0 0 ∷ writing (write 2 4 80) 0 0 ∷ writing (write 4 2 36) 0 0 ∷ [])
+    (ok 0 ∷ refusedWith 4 0 ∷ refusedWith 4 0 ∷ refusedWith 16 0 ∷ ok 0 ∷ ok 0 ∷ [])
+    ∷ []
+
 -- job 3
 unfoldable pub counts : List Row
 counts =
@@ -150,7 +188,7 @@ counts =
     -- and where the call would end with one past that, or below 0
     ∷ answers (withTotal 9 [] (put 1 10) ∷ withTotal 9 (put 1 10 ∷ []) (put 1 11) ∷ withTotal 0 (put 1 10 ∷ []) (del 1) ∷ withTotal 1 filled (flush 0) ∷ withTotal 1 filled (put 7 70) ∷ [])
     (refusedWith 12 0 ∷ ok 0 ∷ refusedWith 12 0 ∷ refusedWith 12 0 ∷ ok 1 ∷ [])
-    ∷ []
+    ∷ writes
 
 unfoldable pub rows : List Row
 rows =

@@ -47,20 +47,7 @@ pub fn decide(part: &[u8], flash: &[u8], g: Geometry, t: u32) -> Leaving
     outgoing::decide(part, flash, g, t, 0)
 }
 
-// The partition and flash after the flush, with so many entries less in the total.
-fn apply(part: &mut [u8], flash: &mut [u8], g: Geometry, t: u32, less: u32)
-    requires { ⌜ Whole g (now part) ⌝ }
-    requires { ⌜ Flushable g t (now part) ⌝ }
-    requires { ⌜ flashNeed g ≤ length (now flash) ⌝ }
-    requires { ⌜ less ≤ totalOf (now part) ⌝ }
-    ensures { λ _. ⌜ (now (part .exit) ≡ totalled 0 less (flushed g t (now (part .entry)))) × (now (flash .exit) ≡ withBatch g t (now (part .entry)) (g .pages) (now (flash .entry))) ⌝ }
-{
-    let j = geometry::slot_of(g, Head::read(part).flushes + 1);
-    flushing::apply(part, flash, g, t, j);
-    head::change_total(part, 0, less);
-}
-
-// The same in partition t of memory.
+// Both areas after the flush of partition t, with so many entries less in its total.
 fn apply_at(memory: &mut [u8], flash: &mut [u8], g: Geometry, t: u32, less: u32)
     requires { ⌜ allowed g ≡ true ⌝ }
     requires { ⌜ memoryNeed g ≤ length (now memory) ⌝ }
@@ -69,9 +56,10 @@ fn apply_at(memory: &mut [u8], flash: &mut [u8], g: Geometry, t: u32, less: u32)
     requires { ⌜ less ≤ totalOf (partition g t (now memory)) ⌝ }
     ensures { λ _. ⌜ (now (memory .exit) ≡ within (partitionAt g t) (stride g) (λ p. totalled 0 less (flushed g t p)) (now (memory .entry))) × (now (flash .exit) ≡ withBatch g t (partition g t (now (memory .entry))) (g .pages) (now (flash .entry))) ⌝ }
 {
+    flushing::apply_at(memory, flash, g, t);
     let a = geometry::partition_at(g, t);
     let e = a + geometry::partition_size(g);
-    apply(&mut memory[a..e], flash, g, t, less);
+    head::change_total(&mut memory[a..e], 0, less);
 }
 
 // The call on a table: 4, 12, 15, 16, 13, 12, or the pages of the batch.

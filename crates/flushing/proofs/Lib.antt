@@ -1,2 +1,3 @@
-pub mod Moving
 pub mod Preparing
+pub mod Moving
+pub mod Prepared

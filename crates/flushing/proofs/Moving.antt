@@ -1,21 +1,52 @@
--- One turn of the loop that moves the buffer to flash, in the loop's own numbers.
-use Prim.Native.Nat.{ℕ, _+_, _<_}
+-- Memory with the first q pages of the partition's buffer emptied: F and the pages behind them are as they were.
+use Prim.Native.Nat.{ℕ, _+_, _≤_, _<_}
+use mathlib.Core.Bool.{true}
 use mathlib.Core.List.{List}
-use mathlib.Core.Path.{_≡_, sym, _∙_}
+use mathlib.Core.Path.{_≡_, sym, _∙_, ap}
 use native.Mathlib.Omega.{arith}
 use lib.ListN.{length}
 use Rattle.model.specs.declared.Geometry.{Geometry}
-use Rattle.model.specs.Bytes.{mid, within}
-use Rattle.model.specs.Geometry.{stride, bufferAt, slotPageAt}
-use Rattle.model.specs.Page.{numbered}
-use Rattle.model.specs.Partition.{flushesOf, slot}
+use Rattle.model.specs.Bytes.{within}
+use Rattle.model.specs.Geometry.{allowed, partitions, bufferAt, stride, partitionAt, memoryNeed}
+use Rattle.model.specs.Page.{emptied}
+use Rattle.model.specs.Partition.{partition, flushesOf, bufferOf}
 use Rattle.model.specs.Format.{emptiedPages}
-use Rattle.model.specs.Flush.{withBatch}
-use Rattle.model.proofs.Partitions.{not-emptied}
-use Rattle.model.proofs.PartitionsFlash.{batch-next}
+use Rattle.model.specs.Flush.{withBatchPage, withBatch}
+use Rattle.model.proofs.Lengths.{length-emptiedPages}
+use Rattle.model.proofs.Parts.{length-within, mid-within, within-same, within-twice}
+use Rattle.model.proofs.Partitions.{emptied-next, not-emptied, flushes-not-emptied}
+use Rattle.model.proofs.PartitionsFlash.{page-same, batch-next}
+use Rattle.partition.proofs.Lending.{partition-inside, partition-whole}
 
-module _ (g : Geometry) (t : ℕ) (p f : List ℕ) (q : ℕ) {part : List ℕ} (was : part ≡ emptiedPages g t q p) where
-  -- page q is written with the batch's number, from where it is still as at the start
-  pub batch-turn : length p ≡ stride g → q < g .pages → {j n at from : ℕ} {flash flash′ : List ℕ} → n ≡ flushesOf p + 1 → j ≡ slot g n → at ≡ slotPageAt g t j q → from ≡ bufferAt g q → flash ≡ withBatch g t p q f
-      → flash′ ≡ within at (g .page) (λ _. numbered n (mid from (g .page) part)) flash → flash′ ≡ withBatch g t p (q + 1) f
-  batch-turn long l en ej eat efrom eflash e = e ∙ rw (eflash, eat, ej, en, efrom, was, not-emptied g t p long q q (omega arith) l) (sym (batch-next g t p f q))
+module _ (g : Geometry) (m : List ℕ) (fine : allowed g ≡ true) (fits : memoryNeed g ≤ length m) (t : ℕ) (below : t < partitions g) (q : ℕ) {m₁ : List ℕ} (was : m₁ ≡ within (partitionAt g t) (stride g) (emptiedPages g t q) m) where
+  abbrev own : List ℕ
+  own = partition g t m
+
+  inside : partitionAt g t + stride g ≤ length m
+  inside = partition-inside g m fine fits t below
+
+  own-long : length own ≡ stride g
+  own-long = partition-whole g m fine fits t below .long
+
+  long : length (emptiedPages g t q own) ≡ stride g
+  long = length-emptiedPages g t q own ∙ own-long
+
+  there : partition g t m₁ ≡ emptiedPages g t q own
+  there = ap (partition g t) was ∙ mid-within (partitionAt g t) (stride g) (emptiedPages g t q) m inside long
+
+  pub same-number : flushesOf (partition g t m₁) ≡ flushesOf own
+  same-number = ap flushesOf there ∙ flushes-not-emptied g t own q
+
+  -- page q is written from where it is still as at the start
+  pub page-moved : q < g .pages → (f₀ : List ℕ) {f f′ : List ℕ} → f ≡ withBatch g t own q f₀ → f′ ≡ withBatchPage g t (partition g t m₁) q f → f′ ≡ withBatch g t own (q + 1) f₀
+  page-moved l f₀ ef e =
+      e ∙ ap (withBatchPage g t (partition g t m₁) q) ef
+      ∙ page-same g t q (partition g t m₁) own _ same-number (ap (λ (p : List ℕ). bufferOf g p q) there ∙ not-emptied g t own own-long q q (omega arith) l)
+      ∙ sym (batch-next g t own f₀ q)
+
+  -- and emptied
+  pub page-emptied : {m₂ : List ℕ} → m₂ ≡ within (partitionAt g t) (stride g) (within (bufferAt g q) (g .page) (emptied q t)) m₁ → m₂ ≡ within (partitionAt g t) (stride g) (emptiedPages g t (q + 1)) m
+  page-emptied e =
+      e ∙ ap (within (partitionAt g t) (stride g) (within (bufferAt g q) (g .page) (emptied q t))) was
+      ∙ within-twice (partitionAt g t) (stride g) (emptiedPages g t q) (within (bufferAt g q) (g .page) (emptied q t)) m inside long (length-within _ _ _ (emptiedPages g t q own) ∙ long)
+      ∙ within-same (partitionAt g t) (stride g) _ (emptiedPages g t (q + 1)) m (sym (emptied-next g t own q))

@@ -1,21 +1,18 @@
--- What a flush does before it writes the batch: the slot's filter is made, and the list loses what expires. Both leave the head and the buffer as they were, so what follows writes the batch and leaves the partition as if from the start.
-use Prim.Native.Nat.{ℕ, _+_, _≤_, _<_}
+-- What a flush does before it writes the batch: the slot's filter is made, and the list loses what expires. The filter lies behind the list, so what expires is what would of the partition as it was.
+use Prim.Native.Nat.{ℕ, _+_, _≤_}
 use mathlib.Core.List.{List}
-use mathlib.Core.Path.{_≡_, _∙_, ap, ap₂}
+use mathlib.Core.Path.{_≡_, _∙_}
 use native.Mathlib.Omega.{arith}
 use Rattle.model.specs.declared.Geometry.{Geometry}
 use Rattle.model.specs.Bytes.{within}
 use Rattle.model.specs.Geometry.{filterAt, filterSize}
 use Rattle.model.specs.DeleteList.{unexpired}
 use Rattle.model.specs.Filter.{filterFor}
-use Rattle.model.specs.Partition.{Head, headOf, withHead, flushesOf, listedOf, listOf, bufferOf, slot}
-use Rattle.model.specs.Format.{emptiedPages}
-use Rattle.model.specs.Flush.{withBatch, filtered, delisted, headAfter, flushed}
+use Rattle.model.specs.Partition.{flushesOf, listedOf, listOf, bufferOf, slot}
+use Rattle.model.specs.Flush.{filtered, delisted}
 use Rattle.model.proofs.Parts.{mid-within-out}
 use Rattle.model.proofs.Sizes.{filter-from}
 use Rattle.model.proofs.ListEntries.{unexpired-le}
-use Rattle.model.proofs.PartitionsFlash.{batch-same}
-use Rattle.model.proofs.PartitionsCalls.{laid-prepared}
 use Rattle.partition.specs.Ready.{Whole}
 use Rattle.partition.proofs.Inside.{list-inside}
 
@@ -37,19 +34,3 @@ module _ (g : Geometry) (p : List ℕ) where
 
     pub stay-as-were : Whole g p → {s : ℕ} → s ≡ unexpired (g .kept) F L (listOf g p′) → s ≡ unexpired (g .kept) (flushesOf p) (listedOf p) (listOf g p)
     stay-as-were w e = e ∙ rw (made, eF, eL, list-kept w)
-
-  module _ (w : Whole g p) {p′ : List ℕ} (e : p′ ≡ delisted g (flushesOf p) (listedOf p) (filtered g p)) where
-    pub same-head : headOf p′ ≡ headOf p
-    same-head = rw e (laid-prepared g (w .fine) p (w .long) .head)
-
-    same-buffer : (q : ℕ) → q < g .pages → bufferOf g p′ q ≡ bufferOf g p q
-    same-buffer q l = rw e (laid-prepared g (w .fine) p (w .long) .buffer q l)
-
-    -- so the batch is that of the partition as it was, and the rest is the flushed partition
-    module _ (t : ℕ) where
-      pub same-batch : (f : List ℕ) {f′ : List ℕ} → f′ ≡ withBatch g t p′ (g .pages) f → f′ ≡ withBatch g t p (g .pages) f
-      same-batch f b = b ∙ batch-same g t p′ f p (ap (λ (h : Head). h .flushes) same-head) same-buffer (g .pages) (omega arith)
-
-      pub all-flushed : {p″ p‴ : List ℕ} {h : Head} → p″ ≡ emptiedPages g t (g .pages) p′ → h ≡ headAfter g p → p‴ ≡ withHead h p″ → p‴ ≡ flushed g t p
-      unfolding flushed
-      all-flushed b eh r = r ∙ ap₂ withHead eh (b ∙ ap (emptiedPages g t (g .pages)) e)

@@ -18,7 +18,7 @@ use Rattle.model.specs.Batch.{failedHead, dropped}
 use Rattle.model.specs.Answers.{Areas, Refusal, unread}
 use Rattle.model.specs.Refusals.{refuseIf, refuseHead, headOverfull, pageOverfull, keyOverfull, somePageOverfull, totalOut, lastFlush}
 use Rattle.model.specs.Format.{formatChecks}
-use Rattle.model.specs.Flush.{inUse, dueChecks, flushChecks}
+use Rattle.model.specs.Flush.{inUse, dueChecks, flushChecks, pageChecks}
 use Rattle.model.specs.Put.{noPosition, due, appends, putDrops, putChecks}
 use Rattle.model.specs.Get.{getChecks}
 use Rattle.model.specs.Del.{isListed, stampFor, removes, delChecks}
@@ -272,6 +272,19 @@ module _ (g : Geometry) (t : ℕ) (p f : List ℕ) where
       let three = refuse-none (somePageOverfull g p) 12 _ (two .1) in
       let four = refuse-none (not (inUse g p)) 15 _ (three .1) in
       (ltb-true t (partitions g) (not-false _ (one .0)), two .0, three .0, not-false _ (four .0), four .1)
+
+-- ---- one page of a flush: 4, 16
+module _ (g : Geometry) (t q : ℕ) (p : List ℕ) where
+  pub page-accepted : pageChecks g t q p ≡ none → (t < partitions g) × (q < g .pages) × (eqb (flushesOf p) lastFlush ≡ false)
+  unfolding pageChecks
+  page-accepted e =
+      let one = refuse-none (not (ltb t (partitions g)) || not (ltb q (g .pages))) 4 _ e in
+      let both = neither (not (ltb t (partitions g))) (not (ltb q (g .pages))) (one .0) in
+      (ltb-true t (partitions g) (not-false _ (both .0)), ltb-true q (g .pages) (not-false _ (both .1)), refuse-none (eqb (flushesOf p) lastFlush) 16 none (one .1) .0)
+
+  pub page-passes : t < partitions g → q < g .pages → eqb (flushesOf p) lastFlush ≡ false → pageChecks g t q p ≡ none
+  unfolding pageChecks
+  page-passes below page number = rw (lt-ltb t (partitions g) below, lt-ltb q (g .pages) page, number)
 
 -- ---- count: 4, 12
 module _ (g : Geometry) (t : ℕ) (p : List ℕ) where

@@ -12,7 +12,7 @@ use Rattle.model.specs.Partition.{withHead, totalled, live, isLive, slot
 use Rattle.model.specs.Batch.{sum, pushesOut, failedHead, dropped}
 use Rattle.model.specs.Refusals.{unopened, headOverfull, pageOverfull, keyOverfull, somePageOverfull, totalOut}
 use Rattle.model.specs.Format.{formatChecks, emptiedPages, emptiedPartitions, formatted}
-use Rattle.model.specs.Flush.{dueChecks, flushChecks, filtered, delisted, headAfter, flushed, flushIn, withBatch}
+use Rattle.model.specs.Flush.{dueChecks, flushChecks, filtered, delisted, headAfter, flushed, flushIn, pageChecks, withBatchPage, withBatch}
 use Rattle.model.specs.Put.{due, noPosition, appends, putDrops, putChecks, unlisted, buffered, putIn}
 use Rattle.model.specs.Get.{getChecks, readThrough, sought}
 use Rattle.model.specs.Del.{removes, delChecks, unbuffered, deleted}
@@ -21,5 +21,5 @@ use Rattle.model.specs.Count.{countChecks}
 use Rattle.model.specs.Calls.{checks, result, reply, effect, after, run, replies}
 
 unfoldable pub computing : Type 0
-unfolding word bytesOf write within firstFrom isPower allowed mostEntries filterAt bufferAt stride partitionAt memoryNeed slotPageAt flashNeed geometryOf withOpening partitionOf pageOf mixed bitOf staying stayingBytes closedUp appended replaced removed stored added without taken emptied numbered expected enlisted struck expired unexpired withBit passes withBits withEntries withPages filterFor withHead totalled live isLive slotBits batchPasses passingFrom passing sum pushesOut failedHead dropped unopened headOverfull pageOverfull keyOverfull somePageOverfull totalOut formatChecks emptiedPages emptiedPartitions formatted dueChecks flushChecks filtered delisted headAfter flushed flushIn withBatch due noPosition appends putDrops putChecks unlisted buffered putIn getChecks readThrough sought removes delChecks unbuffered deleted viewChecks viewed countChecks checks result reply effect after run replies
+unfolding word bytesOf write within firstFrom isPower allowed mostEntries filterAt bufferAt stride partitionAt memoryNeed slotPageAt flashNeed geometryOf withOpening partitionOf pageOf mixed bitOf staying stayingBytes closedUp appended replaced removed stored added without taken emptied numbered expected enlisted struck expired unexpired withBit passes withBits withEntries withPages filterFor withHead totalled live isLive slotBits batchPasses passingFrom passing sum pushesOut failedHead dropped unopened headOverfull pageOverfull keyOverfull somePageOverfull totalOut formatChecks emptiedPages emptiedPartitions formatted dueChecks flushChecks filtered delisted headAfter flushed flushIn pageChecks withBatchPage withBatch due noPosition appends putDrops putChecks unlisted buffered putIn getChecks readThrough sought removes delChecks unbuffered deleted viewChecks viewed countChecks checks result reply effect after run replies
 computing = Unit {0}

@@ -12,7 +12,7 @@ use Rattle.model.specs.DeleteList.{listedAt, enlisted, struck, expired}
 use Rattle.model.specs.Filter.{withBit, withBits, withEntries, withPages, filterFor}
 use Rattle.model.specs.Partition.{Head, withHead, totalled, listedOf, listOf}
 use Rattle.model.specs.Format.{emptiedPages, emptiedPartitions, formatted}
-use Rattle.model.specs.Flush.{filtered, delisted, flushed, withBatch}
+use Rattle.model.specs.Flush.{filtered, delisted, flushed, withBatchPage, withBatch}
 use Rattle.model.specs.Put.{unlistedAt, unlisted, buffered}
 use Rattle.model.specs.Del.{unbuffered, listedWith}
 use Rattle.model.specs.declared.Geometry.{Geometry}
@@ -134,10 +134,14 @@ pub length-flushed : (g : Geometry) (t : ℕ) (p : List ℕ) → length (flushed
 unfolding flushed
 length-flushed g t p = simp (length-withHead, length-emptiedPages, length-delisted, length-filtered)
 
+pub length-withBatchPage : (g : Geometry) (t : ℕ) (p : List ℕ) (q : ℕ) (f : List ℕ) → length (withBatchPage g t p q f) ≡ length f
+unfolding withBatchPage
+length-withBatchPage g t p q f = length-within _ _ _ f
+
 pub length-withBatch : (g : Geometry) (t : ℕ) (p : List ℕ) (q : ℕ) (f : List ℕ) → length (withBatch g t p q f) ≡ length f
 unfolding withBatch
 length-withBatch g t p zero f = refl
-length-withBatch g t p (suc q) f = simp (length-within, length-withBatch g t p q f)
+length-withBatch g t p (suc q) f = simp (length-withBatchPage, length-withBatch g t p q f)
 
 -- ---- put
 length-unlistedAt : (o : Option ℕ) (g : Geometry) (p : List ℕ) → length (unlistedAt o g p) ≡ length p

@@ -14,7 +14,7 @@ use Rattle.model.specs.Bytes.{mid, within}
 use Rattle.model.specs.Geometry.{allowed, listAt, listSize, filterAt, filterSize, bufferAt, stride}
 use Rattle.model.specs.Page.{emptied}
 use Rattle.model.specs.Filter.{isSet}
-use Rattle.model.specs.Partition.{Head, headOf, withHead, listOf, filterOf, bufferOf, slotBits}
+use Rattle.model.specs.Partition.{Head, headOf, withHead, flushesOf, listOf, filterOf, bufferOf, slotBits}
 use Rattle.model.specs.Format.{emptiedPages}
 use Rattle.model.proofs.Parts.{Apart, mid-ext, length-within, mid-within, mid-within-out}
 use Rattle.model.proofs.Words.{getD-write-out, word-within-out}
@@ -174,10 +174,15 @@ module _ (g : Geometry) (t : ℕ) (p : List ℕ) where
   pub emptied-turn : (q : ℕ) {part part′ : List ℕ} → part ≡ emptiedPages g t q p → part′ ≡ within (bufferAt g q) (g .page) (emptied q t) part → part′ ≡ emptiedPages g t (q + 1) p
   emptied-turn q was e = e ∙ rw was (sym (emptied-next q))
 
-  -- pages that are not emptied yet
+  -- pages that are not emptied yet, and what lies in front of them
   pub not-emptied : length p ≡ stride g → (n q : ℕ) → n ≤ q → q < g .pages → bufferOf g (emptiedPages g t n p) q ≡ bufferOf g p q
   unfolding emptiedPages
   not-emptied long zero q l m = refl
   not-emptied long (suc n) q l m =
       mid-within-out _ _ _ (emptiedPages g t n p) _ _ (omega (arith, length-emptiedPages g t n p, buffer-fits g q m, long)) (buffers-apart g n q (λ e. omega arith))
       ∙ not-emptied long n q (omega arith) m
+
+  pub flushes-not-emptied : (n : ℕ) → flushesOf (emptiedPages g t n p) ≡ flushesOf p
+  unfolding emptiedPages
+  flushes-not-emptied zero = refl
+  flushes-not-emptied (suc n) = word-within-out 4 _ _ _ (emptiedPages g t n p) 0 (omega (arith, buffer-behind-list g n)) ∙ flushes-not-emptied n

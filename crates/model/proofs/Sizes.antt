@@ -25,6 +25,7 @@ pub record Sizes (g : Geometry) : Type 0 where
   pub page-min : 64 ≤ g .page
   pub page-max : g .page ≤ 4096
   pub page-is : g .page ≡ 16 * (capacity g + 1)
+  pub page-blocks : g .page % 64 ≡ 0
   pub capacity-min : 3 ≤ capacity g
   pub pages-test : isPower 0 6 (g .pages) ≡ true
   pub pages-min : 1 ≤ g .pages
@@ -74,7 +75,7 @@ sizes g ok =
     let pages-range = power-range 0 6 (pages .0) (pages .1) (pages .2) in
     let page-range = power-range 6 12 (page .0) (page .1) (page .2) in
     let parts-range = power-range 0 8 (g .parts) (omega arith) parts in
-    let page-multiple = power-multiple 4 (page .0) (omega arith) in
+    let page-multiple = power-multiple 6 (page .0) (omega arith) in
     let bits-multiple = power-multiple 3 (bits .0) (omega arith) in
     record {
       parts-max = parts;
@@ -84,6 +85,7 @@ sizes g ok =
       page-min = omega arith;
       page-max = omega arith;
       page-is = omega arith;
+      page-blocks = omega arith;
       capacity-min = omega arith;
       pages-test = w3 .1;
       pages-min = omega arith;

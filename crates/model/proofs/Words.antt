@@ -3,9 +3,10 @@ use mathlib.Core.Path.{_≡_, refl, sym, _∙_, ap}
 use mathlib.Core.List.{List, _∷_, _++_}
 use Prim.Native.Nat.{ℕ, zero, suc, _+_, _*_, _/_, _%_, _^_, _≤_, _<_}
 use native.Mathlib.Nat.{zero-add, add-zero, suc-add, add-assoc, mul-assoc, one-mul, div-one, mod-one, mod-eq-of-lt, pow-zero, pow-suc, pow-succ', div-div-eq-div-mul, one-le-pow}
+use native.Mathlib.Numerals.{add-one}
 use native.Mathlib.Omega.{arith}
 use lib.ListN.{length, getD, replicate}
-use lib.Seq.{sets, length-sets}
+use lib.Seq.{sets, length-sets, drop-cons}
 use lib.Arith.{mod-mul}
 use Rattle.model.specs.Bytes.{mid, within}
 use Rattle.model.specs.Bytes.{word, bytesOf, write}
@@ -48,6 +49,16 @@ bytesOf-mod (suc m) v =
     let p : v % 256 ^ suc m % 256 ≡ v % 256 = omega arith in
     let q : v % 256 ^ suc m / 256 ≡ v / 256 % 256 ^ m = omega arith in
     rw (p, q, bytesOf-mod m (v / 256))
+
+-- the bytes of a number are those that it was read from
+pub bytesOf-word : (n : ℕ) (xs : List ℕ) (at : ℕ) → ((i : ℕ) → getD xs i 0 < 256) → at + n ≤ length xs → bytesOf n (word n xs at) ≡ mid at n xs
+unfolding word bytesOf
+bytesOf-word zero xs at b l = refl
+bytesOf-word (suc n) xs at b l =
+    let here = b at in
+    let low : (getD xs at 0 + 256 * word n xs (at + 1)) % 256 ≡ getD xs at 0 = omega arith in
+    let high : (getD xs at 0 + 256 * word n xs (at + 1)) / 256 ≡ word n xs (at + 1) = omega arith in
+    rw (low, high, bytesOf-word n xs (at + 1) b (omega arith), drop-cons xs at 0 (omega arith), add-one)
 
 pub word-bytesOf : (n v : ℕ) → word n (bytesOf n v) 0 ≡ v % 256 ^ n
 unfolding word bytesOf

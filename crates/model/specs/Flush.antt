@@ -1,7 +1,7 @@
 -- "flush of partition t: batch F + 1 is written whole, its pages being the buffer pages with that flush number; no other flash byte changes. The slot's filter is made new. List entries stamped F + 1 − K are removed. The buffer is emptied as by format and F rises by 1."
--- Document 02: "A flush that drops a batch first reads the heads of that batch's Q pages in order."
+-- Document 02: "A flush that drops a batch first reads the heads of that batch's Q pages in order." "However pages now get to flash, write each from the buffer into its slot directly."
 use Prim.Native.Nat.{ℕ, zero, suc, _+_, _-_}
-use mathlib.Core.Bool.{Bool, not}
+use mathlib.Core.Bool.{Bool, not, _||_}
 use mathlib.Core.List.{List}
 use mathlib.Core.Option.{Option, none}
 use lib.Dec.{eqb, ltb}
@@ -57,7 +57,17 @@ flushed g t p = withHead (headAfter g p) (emptiedPages g t (g .pages) (delisted 
 unfoldable pub flushIn : Geometry → ℕ → List ℕ → List ℕ → List ℕ
 flushIn g t f p = totalled 0 (dropped g t p f) (flushed g t p)
 
--- flash with the first q pages of the batch written
+-- 4, 16, for page q of partition t with the bytes p: a page is written "on any areas, partition and page that pass 2, 11, 3, 4 and 16"
+unfoldable pub pageChecks : Geometry → ℕ → ℕ → List ℕ → Option Refusal
+pageChecks g t q p =
+    refuseIf (not (ltb t (partitions g)) || not (ltb q (g .pages))) 4
+    (refuseIf (eqb (flushesOf p) lastFlush) 16 none)
+
+-- flash with page q of the batch written: "the slot's page then holds the buffer page's bytes with the new flush number", whatever it counts, and every other byte stays
+unfoldable pub withBatchPage : Geometry → ℕ → List ℕ → ℕ → List ℕ → List ℕ
+withBatchPage g t p q f = within (slotPageAt g t (slot g (flushesOf p + 1)) q) (g .page) (λ _. numbered (flushesOf p + 1) (bufferOf g p q)) f
+
+-- with its first q pages written
 unfoldable pub withBatch : Geometry → ℕ → List ℕ → ℕ → List ℕ → List ℕ
 withBatch g t p zero f = f
-withBatch g t p (suc q) f = within (slotPageAt g t (slot g (flushesOf p + 1)) q) (g .page) (λ _. numbered (flushesOf p + 1) (bufferOf g p q)) (withBatch g t p q f)
+withBatch g t p (suc q) f = withBatchPage g t p q (withBatch g t p q f)

@@ -1,29 +1,48 @@
--- The partition is lent as a part of memory, and comes back flushed, with its total lowered.
-use mathlib.Core.Path.{_∙_}
+-- The partition is lent as the flush leaves it, and comes back with its total lowered.
+use mathlib.Core.Path.{_∙_, ap}
 use native.Mathlib.Omega.{arith}
 use borrow.Author.Needs.{needs}
-use Rattle.model.specs.Flush.{flushed}
-use Rattle.model.specs.Partition.{totalled}
-use Rattle.model.proofs.Lengths.{length-totalled, length-flushed}
-use Rattle.partition.proofs.Lending.{Lent, lends}
+use Rattle.model.specs.Partition.{partition, headOf, totalOf, totalled}
+use Rattle.model.proofs.Heads.{HeadWords}
+use Rattle.model.proofs.Lengths.{length-totalled}
+use Rattle.partition.proofs.Inside.{list-inside}
+use Rattle.partition.proofs.Lending.{Lent, lends, partition-words}
+use Rattle.flush.proofs.Lowering.{still-fits, total-kept, lowered}
 use Rattle.flush.proofs.apply_at.Statement.{statement}
 use Rattle.flush.proofs.apply_at.Tie as tie
 
-lent : (c : tie.After-partition-size) → let a = c .before .before .before .before .args in Lent (a .g) (a .t) (a .memory .now) (c .before .partition-at .result) (c .partition-size .result)
-lent c = let s = c .before .before .before .before in lends _ _ (s .pre .0) (s .pre .1 .0) _ (s .pre .1 .1 .0 .below) _ _ (c .before .partition-at .ensures) (c .partition-size .ensures)
+-- ---- the steps that the facts go back to
+abbrev start : tie.After-apply-at → tie.Start
+start c = c .before .before .before .before .before
 
-apply-requires : tie.Need-apply-requires
-apply-requires c κs =
-    let l = lent (c .before .before) in
-    let p = c .before .before .before .before .before .before .pre in
-    (l .whole, (rw (l .own) (p .1 .1 .0), (p .1 .1 .1 .0, rw (l .own) (p .1 .1 .1 .1))))
+abbrev flushed-at : tie.After-partition-size → tie.After-apply-at
+flushed-at c = c .before .before .before .before .before .before
+
+words : (c : tie.After-apply-at) → let a = start c .args in HeadWords (headOf (partition (a .g) (a .t) (a .memory .now)))
+words c = let a = start c .args in partition-words (a .g) (a .t) (a .memory .now) (λ i. omega (arith, c .before .before .before .before .slice-known .given i))
+
+lent : (c : tie.After-partition-size) → let a = start (flushed-at c) .args in Lent (a .g) (a .t) (flushed-at c .apply-at .last .0) (c .before .partition-at .result) (c .partition-size .result)
+lent c =
+    let p = start (flushed-at c) .pre in
+    lends _ _ (p .0) (still-fits _ _ (p .0) (p .1 .0) _ (p .1 .1 .0) (flushed-at c .apply-at .ensures .0)) _ (p .1 .1 .0 .below) _ _ (c .before .partition-at .ensures) (c .partition-size .ensures)
+
+change-total-requires : tie.Need-change-total-requires
+change-total-requires c κs =
+    let l = lent (c .before) in
+    let d = flushed-at (c .before) in
+    let p = start d .pre in
+    let t = ap totalOf (l .own) ∙ total-kept _ _ (p .0) (p .1 .0) _ (p .1 .1 .0) (d .apply-at .ensures .0) (words d) in
+    (omega (arith, list-inside _ _ (l .whole)), (omega (arith, t, words d .total), omega (arith, t, p .1 .1 .1 .1)))
 
 returns : tie.Need-returns
 returns c =
-    let l = lent (c .before .before .before .before .before .before .before) in
-    let a = c .before .before .before .before .before .before .before .before .before .before .before .args in
-    let r = c .before .before .before .before .apply .ensures in
-    (l .back (λ p. totalled 0 (a .less) (flushed (a .g) (a .t) p)) (λ p. length-totalled 0 (a .less) (flushed (a .g) (a .t) p) ∙ length-flushed (a .g) (a .t) p) _ (r .0), rw (l .own) at (r .1))
+    let s = c .before .before .before .before in
+    let d = flushed-at s in
+    let p = start d .pre in
+    let less = start d .args .less in
+    (lowered _ _ (p .0) (p .1 .0) _ (p .1 .1 .0) (d .apply-at .ensures .0) less (lent s .back (totalled 0 less) (length-totalled 0 less) _ (c .before .before .change-total .ensures)), d .apply-at .ensures .1)
 
 pub apply-at-spec : {M : Type 1} → statement M
-apply-at-spec = tie.close (tie.spec (λ c κs. search needs) (λ c κs. search needs) (λ c. omega (arith, lent c .inside)) (λ c. search needs) (λ c. search needs) (λ c. omega (arith, lent c .inside)) apply-requires (λ c. search needs) (λ c. search needs) returns)
+apply-at-spec =
+    tie.close (tie.spec (λ c κs. let p = c .before .before .before .before .pre in (p .0, (p .1 .0, (p .1 .1 .0, p .1 .1 .1 .0)))) (λ c κs. search needs) (λ c κs. search needs) (λ c. omega (arith, lent c .inside)) (λ c. search needs) (λ c. search needs) (λ c. omega (arith, lent c .inside)) change-total-requires
+    (λ c. search needs) (λ c. search needs) returns)

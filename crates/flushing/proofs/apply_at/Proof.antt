@@ -1,27 +1,35 @@
--- The partition is lent as a part of memory, and comes back flushed.
+-- The slot is that of the batch after F.
+use Prim.Native.Nat.{ℕ, _+_}
+use mathlib.Core.Path.{_≡_, _∙_, ap}
 use native.Mathlib.Omega.{arith}
+use lib.ListN.{length}
 use borrow.Author.Needs.{needs}
-use Rattle.model.specs.Flush.{flushed}
-use Rattle.model.proofs.Lengths.{length-flushed}
-use Rattle.partition.proofs.Lending.{Lent, lends}
+use Rattle.model.specs.Partition.{partition, flushesOf, slot}
+use Rattle.head.proofs.Fields.{flushes-is}
+use Rattle.partition.specs.Ready.{Whole}
+use Rattle.partition.proofs.Inside.{list-inside}
+use Rattle.partition.proofs.Lending.{partition-whole}
 use Rattle.flushing.proofs.apply_at.Statement.{statement}
 use Rattle.flushing.proofs.apply_at.Tie as tie
 
-lent : (c : tie.After-partition-size) → let a = c .before .before .before .before .args in Lent (a .g) (a .t) (a .memory .now) (c .before .partition-at .result) (c .partition-size .result)
-lent c = let s = c .before .before .before .before in lends _ _ (s .pre .0) (s .pre .1 .0) _ (s .pre .1 .1 .0 .below) _ _ (c .before .partition-at .ensures) (c .partition-size .ensures)
+abbrev start : tie.After-part-of → tie.Start
+start c = c .before .before .before .before
 
-apply-next-requires : tie.Need-apply-next-requires
-apply-next-requires c κs =
-    let l = lent (c .before .before) in
-    let p = c .before .before .before .before .before .before .pre in
-    (l .whole, (rw (l .own) (p .1 .1 .0), p .1 .1 .1))
+whole : (c : tie.After-part-of) → Whole (start c .args .g) (c .part-of .result .now)
+whole c = let p = start c .pre in record { fine = p .0; long = ap length (c .part-of .ensures) ∙ partition-whole _ _ (p .0) (p .1 .0) _ (p .1 .1 .0 .below) .long }
 
-returns : tie.Need-returns
-returns c =
-    let l = lent (c .before .before .before .before .before .before .before) in
-    let a = c .before .before .before .before .before .before .before .before .before .before .before .args in
-    let r = c .before .before .before .before .apply-next .ensures in
-    (l .back (flushed (a .g) (a .t)) (length-flushed (a .g) (a .t)) _ (r .0), rw (l .own) at (r .1))
+same : (c : tie.After-read) → let a = start (c .before) .args in c .read .result .flushes ≡ flushesOf (partition (a .g) (a .t) (a .memory .now))
+same c = flushes-is (c .read .ensures) ∙ ap flushesOf (c .before .part-of .ensures)
+
+apply-in-slot-requires : tie.Need-apply-in-slot-requires
+apply-in-slot-requires c κs =
+    let j = c .before .before in
+    let r = j .before .before in
+    let s = start (r .before) in
+    let p = s .pre in
+    (p .0, (p .1 .0, (p .1 .1 .0, (p .1 .1 .1, j .slot-of .ensures ∙ ap (λ (n : ℕ). slot (s .args .g) (n + 1)) (same r)))))
 
 pub apply-at-spec : {M : Type 1} → statement M
-apply-at-spec = tie.close (tie.spec (λ c κs. search needs) (λ c κs. search needs) (λ c. omega (arith, lent c .inside)) (λ c. search needs) (λ c. search needs) (λ c. omega (arith, lent c .inside)) apply-next-requires (λ c. search needs) (λ c. search needs) returns)
+apply-at-spec =
+    tie.close (tie.spec (λ c κs. let p = c .before .before .before .pre in (p .0, (p .1 .0, p .1 .1 .0 .below))) (λ c κs. omega (arith, list-inside _ _ (whole c))) (λ c. omega (arith, same (c .before), start (c .before .before) .pre .1 .1 .0 .number)) (λ c κs. (start (c .before .before) .pre .0, omega arith)) apply-in-slot-requires
+    (λ c. search needs) (λ c. search needs) (λ c. c .before .before .before .before .apply-in-slot .ensures))
