@@ -76,7 +76,7 @@ fn apply_in_slot(memory: &mut [u8], flash: &mut [u8], g: Geometry, t: u32, j: u3
     head::put_back(&mut memory[a..e], head);
 }
 
-// The same, to the slot of the next batch.
+// The same, to the slot of the next batch. It is found before the partition is lent: found there, the filter waits for the division.
 pub fn apply_at(memory: &mut [u8], flash: &mut [u8], g: Geometry, t: u32)
     requires { ⌜ allowed g ≡ true ⌝ }
     requires { ⌜ memoryNeed g ≤ length (now memory) ⌝ }
