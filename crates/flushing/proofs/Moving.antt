@@ -13,26 +13,21 @@ use Rattle.model.specs.Partition.{partition, flushesOf, bufferOf}
 use Rattle.model.specs.Format.{emptiedPages}
 use Rattle.model.specs.Flush.{withBatchPage, withBatch}
 use Rattle.model.proofs.Lengths.{length-emptiedPages}
-use Rattle.model.proofs.Parts.{length-within, mid-within, within-same, within-twice}
+use Rattle.model.proofs.Parts.{length-within, within-same}
 use Rattle.model.proofs.Partitions.{emptied-next, not-emptied, flushes-not-emptied}
 use Rattle.model.proofs.PartitionsFlash.{page-same, batch-next}
-use Rattle.partition.proofs.Lending.{partition-inside, partition-whole}
+use Rattle.partition.proofs.Lending.{partition-whole}
+use Rattle.partition.proofs.Changing.{changed-there, changed-again}
 
 module _ (g : Geometry) (m : List ℕ) (fine : allowed g ≡ true) (fits : memoryNeed g ≤ length m) (t : ℕ) (below : t < partitions g) (q : ℕ) {m₁ : List ℕ} (was : m₁ ≡ within (partitionAt g t) (stride g) (emptiedPages g t q) m) where
   abbrev own : List ℕ
   own = partition g t m
 
-  inside : partitionAt g t + stride g ≤ length m
-  inside = partition-inside g m fine fits t below
-
   own-long : length own ≡ stride g
   own-long = partition-whole g m fine fits t below .long
 
-  long : length (emptiedPages g t q own) ≡ stride g
-  long = length-emptiedPages g t q own ∙ own-long
-
   there : partition g t m₁ ≡ emptiedPages g t q own
-  there = ap (partition g t) was ∙ mid-within (partitionAt g t) (stride g) (emptiedPages g t q) m inside long
+  there = changed-there g m fine fits t below (emptiedPages g t q) (length-emptiedPages g t q) was
 
   pub same-number : flushesOf (partition g t m₁) ≡ flushesOf own
   same-number = ap flushesOf there ∙ flushes-not-emptied g t own q
@@ -47,6 +42,5 @@ module _ (g : Geometry) (m : List ℕ) (fine : allowed g ≡ true) (fits : memor
   -- and emptied
   pub page-emptied : {m₂ : List ℕ} → m₂ ≡ within (partitionAt g t) (stride g) (within (bufferAt g q) (g .page) (emptied q t)) m₁ → m₂ ≡ within (partitionAt g t) (stride g) (emptiedPages g t (q + 1)) m
   page-emptied e =
-      e ∙ ap (within (partitionAt g t) (stride g) (within (bufferAt g q) (g .page) (emptied q t))) was
-      ∙ within-twice (partitionAt g t) (stride g) (emptiedPages g t q) (within (bufferAt g q) (g .page) (emptied q t)) m inside long (length-within _ _ _ (emptiedPages g t q own) ∙ long)
+      changed-again g m fine fits t below (emptiedPages g t q) (length-emptiedPages g t q) was (within (bufferAt g q) (g .page) (emptied q t)) (length-within (bufferAt g q) (g .page) (emptied q t)) e
       ∙ within-same (partitionAt g t) (stride g) _ (emptiedPages g t (q + 1)) m (sym (emptied-next g t own q))

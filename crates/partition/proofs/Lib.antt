@@ -1,3 +1,4 @@
 pub mod Inside
 pub mod Lending
+pub mod Changing
 pub mod Flushing

@@ -13,7 +13,8 @@ use Rattle.model.proofs.Lengths.{length-withHead}
 use Rattle.head.specs.Heads.{asHead}
 use Rattle.partition.proofs.Inside.{list-inside}
 use Rattle.partition.proofs.Lending.{Lent, lends}
-use Rattle.flushing.proofs.Prepared.{prepared, length-prepared, number-after, still-fits, same-number, same-batch, fits-behind, all-flushed}
+use Rattle.partition.proofs.Changing.{changed-fits}
+use Rattle.flushing.proofs.Prepared.{prepared, length-prepared, number-after, same-number, same-batch, fits-behind, all-flushed}
 use Rattle.flushing.proofs.apply_in_slot.Statement.{statement}
 use Rattle.flushing.proofs.apply_in_slot.Tie as tie
 
@@ -51,7 +52,7 @@ move-batch-requires : tie.Need-move-batch-requires
 move-batch-requires c κs =
     let d = c .before .before .before .before in
     let p = start (sized d) .pre in
-    (p .0, (still-fits _ _ (p .0) (p .1 .0) _ (p .1 .1 .0) (made d), (p .1 .1 .1 .0, (p .1 .1 .0 .below, omega (arith, number d, same-number _ _ (p .0) (p .1 .0) _ (p .1 .1 .0) (made d))))))
+    (p .0, (changed-fits _ _ (p .0) (p .1 .0) _ (p .1 .1 .0 .below) _ (length-prepared _) (made d), (p .1 .1 .1 .0, (p .1 .1 .0 .below, omega (arith, number d, same-number _ _ (p .0) (p .1 .0) _ (p .1 .1 .0) (made d))))))
 
 -- ---- lent again, for its head
 lent-again : (c : tie.After-move-batch) → let s = sized (readied c) in let a = start s .args in Lent (a .g) (a .t) (c .move-batch .last .0) (s .before .partition-at .result) (s .partition-size .result)
