@@ -19,7 +19,7 @@ use Rattle.model.specs.Answers.{Areas, Refusal, unread}
 use Rattle.model.specs.Refusals.{refuseIf, refuseHead, headOverfull, pageOverfull, keyOverfull, somePageOverfull, totalOut, lastFlush}
 use Rattle.model.specs.Format.{formatChecks}
 use Rattle.model.specs.Flush.{inUse, dueChecks, flushChecks, pageChecks}
-use Rattle.model.specs.Put.{noPosition, due, appends, putDrops, putChecks}
+use Rattle.model.specs.Put.{noPosition, due, appends, putChecks}
 use Rattle.model.specs.Get.{getChecks}
 use Rattle.model.specs.Del.{isListed, stampFor, removes, delChecks}
 use Rattle.model.specs.View.{viewChecks}
@@ -147,14 +147,6 @@ module _ (g : Geometry) (k : ℕ) (p : List ℕ) where
   pub appends-due : due g k p ≡ true → appends g k p ≡ 1
   unfolding due
   appends-due e = appends-new (none-found _ (not-true _ (both-true (not (isSome (searched k page))) (eqb (countOf page) (capacity g)) e .0)))
-
-  pub drops-undue : (f : List ℕ) → due g k p ≡ false → putDrops g k p f ≡ 0
-  unfolding putDrops
-  drops-undue f e = rw e
-
-  pub drops-due : (f : List ℕ) → due g k p ≡ true → putDrops g k p f ≡ dropped g (partitionOf g k) p f
-  unfolding putDrops
-  drops-due f e = rw e
 
   module _ (v : ℕ) (f : List ℕ) where
     pub put-21 : noPosition v ≡ true → putChecks g k v p f ≡ some (unread 21)

@@ -5,14 +5,13 @@ use mathlib.Core.List.{List, [], _∷_, _++_, append-nil}
 use mathlib.Core.Option.{Option, none, some}
 use Prim.Native.Nat.{ℕ, zero, suc, _+_, _-_, _*_, _^_, _≤_, _<_}
 use native.Mathlib.Nat.{zero-add, add-zero, add-assoc, suc-add}
-use native.Mathlib.Numerals.{add-one}
 use native.Mathlib.Omega.{arith}
 use lib.Dec.{eqb}
 use lib.ListN.{length, getD, length-append, length-replicate, List·getD-append}
 use lib.Seq.{sets, getD-append-add}
 use borrow.Author.Tests.{eqb-true, eqb-false, eq-eqb, ne-eqb}
 use Rattle.model.specs.Bytes.{word, write, mid, zeros}
-use Rattle.model.specs.Search.{firstFrom, isSome}
+use Rattle.model.specs.Search.{firstFrom}
 use Rattle.model.specs.Records.{keyAt, firstRecord, staying, stayingBytes, closedUp}
 use Rattle.model.specs.Page.{countOf, searched, appended, replaced, removed, storedAt, stored, removedAt, without, emptied, numbered}
 use Rattle.model.proofs.Parts.{Apart, getD-sets-in, getD-mid}
@@ -20,7 +19,7 @@ use Rattle.model.proofs.Words.{word-ext, length-write, getD-write-out, 
 use Rattle.model.proofs.Searching.{first-at}
 use Rattle.model.proofs.Closing.{staying-le, length-stayingBytes, length-closedUp, staying-one}
 use Rattle.model.proofs.Tests.{either}
-use Rattle.model.proofs.Tables.{Entry, find, store, erase, store-new, erase-none, length-store}
+use Rattle.model.proofs.Tables.{Entry, find, store, erase, store-new, erase-none}
 
 -- record i: its key, and the number of w bytes behind the key
 abbrev pub entryAt : ℕ → List ℕ → ℕ → Entry
@@ -73,13 +72,6 @@ unfolding find entriesFrom firstFrom
 find-entries k w zero a xs = refl
 find-entries k w (suc n) a xs =
     rw (eqb-comm k (keyAt xs a)) (either (eqb (keyAt xs a) k) (λ h. simp h) (λ h. simp (h, find-entries k w n (a + 1) xs)))
-
-pub isSome-find : (k w n a : ℕ) (xs : List ℕ) → isSome (find k (entriesFrom w n a xs)) ≡ isSome (firstRecord k n a xs)
-isSome-find k w n a xs = rw (find-entries k w n a xs) (same (firstRecord k n a xs))
-  where
-    same : (o : Option ℕ) → isSome (heldAt w xs o) ≡ isSome o
-    same none = refl
-    same (some i) = refl
 
 -- ---- the entries of records that stay: with one more record
 remaining-last : (w : ℕ) (gone : ℕ → Bool) (n a : ℕ) (xs : List ℕ) → remaining w gone (suc n) a xs ≡ remaining w gone n a xs ++ cond (gone (a + n)) [] (entryAt w xs (a + n) ∷ [])
@@ -266,14 +258,6 @@ module _ (p : List ℕ) (fits : 16 + 16 * countOf p ≤ length p) where
         go none e = sym (erase-none k (pageEntries p) (find-searched k p ∙ ap (heldAt 8 p) e))
         go (some i) e = entries-removed i p fits small k e
 
-    pub count-without : (k : ℕ) → countOf (without k p) ≡ cond (isSome (searched k p)) (countOf p - 1) (countOf p)
-    unfolding without
-    count-without k = go (searched k p)
-      where
-        go : (o : Option ℕ) → countOf (removedAt o p) ≡ cond (isSome o) (countOf p - 1) (countOf p)
-        go none = refl
-        go (some i) = count-removed i p fits small
-
     module _ (k v : ℕ) (hk : k < 2 ^ 64) (hv : v < 2 ^ 64) (room : searched k p ≡ none → 32 + 16 * countOf p ≤ length p) where
       pub entries-stored : pageEntries (stored k v p) ≡ store k v (pageEntries p)
       unfolding stored
@@ -282,9 +266,6 @@ module _ (p : List ℕ) (fits : 16 + 16 * countOf p ≤ length p) where
           go : (o : Option ℕ) → searched k p ≡ o → pageEntries (storedAt o k v p) ≡ store k v (pageEntries p)
           go none e = entries-appended k v p hk hv (room e) small ∙ sym (store-new k v (pageEntries p) (find-searched k p ∙ ap (heldAt 8 p) e))
           go (some i) e = entries-replaced i v p (found-used k i p e .0) ∙ sym (store-first 8 (omega arith) k v i (countOf p) 1 p hv (omega arith) e)
-
-      pub count-stored : countOf (stored k v p) ≡ cond (isSome (searched k p)) (countOf p) (countOf p + 1)
-      count-stored = sym (count-entries (stored k v p)) ∙ rw (entries-stored, length-store, isSome-find, count-entries, add-one)
 
 -- ---- an emptied page
 module _ (q t : ℕ) (p : List ℕ) where

@@ -2,7 +2,7 @@
 use Prim.Native.Nat.{ℕ, _+_, _≤_, _<_, _^_}
 use mathlib.Core.Bool.{true, false}
 use mathlib.Core.List.{List}
-use mathlib.Core.Path.{_≡_, refl, sym, _∙_, ap}
+use mathlib.Core.Path.{_≡_, sym, _∙_, ap}
 use native.Mathlib.Omega.{arith}
 use lib.ListN.{length, getD}
 use Rattle.model.specs.declared.Geometry.{Geometry}
@@ -22,7 +22,7 @@ use Rattle.model.proofs.Checks.{fits-key, appends-new}
 use Rattle.model.proofs.Entries.{count-emptied}
 use Rattle.model.proofs.Heads.{HeadWords, fits-after}
 use Rattle.model.proofs.Lengths.{length-withBatch, length-totalled, length-buffered, length-flushed, length-unlisted}
-use Rattle.model.proofs.Parts.{length-within, mid-within, within-twice, within-same}
+use Rattle.model.proofs.Parts.{length-within, within-same}
 use Rattle.model.proofs.PartitionsCalls.{laid-flushed, put-kept, put-flushed}
 use Rattle.model.proofs.Totals.{total-flushed}
 use Rattle.model.proofs.Sizes.{sizes, partition-of-lt, page-of-lt}
@@ -32,7 +32,8 @@ use Rattle.answers.specs.Performs.{areas, Performs}
 use Rattle.answers.proofs.Performing as performing
 use Rattle.opening.specs.Opened.{IsTable}
 use Rattle.partition.specs.Ready.{Whole, Storable, Flushable}
-use Rattle.partition.proofs.Lending.{partition-inside, key-whole, partition-words}
+use Rattle.partition.proofs.Lending.{key-whole, partition-words}
+use Rattle.partition.proofs.Changing.{changed-there, changed-again}
 use Rattle.put.specs.declared.Plan.{Plan}
 use Rattle.put.specs.declared.Plan.the-variants.{Refused, Store, Flush}
 use Rattle.put.specs.Plans.{planFor}
@@ -107,9 +108,6 @@ module _ (g : Geometry) (m f : List ℕ) (table : IsTable g m f) (k : ℕ) where
       below : t < partitions g
       below = partition-of-lt g (table .fine) k key
 
-      inside : at + stride g ≤ length m
-      inside = partition-inside g m (table .fine) (table .memoryFits) t below
-
       module _ (bytes : (i : ℕ) → getD m i 0 < 256) (less : ℕ) (h : planFor g k v own f ≡ Flush less) where
         words : HeadWords (headOf own)
         words = partition-words g t m bytes
@@ -117,12 +115,9 @@ module _ (g : Geometry) (m f : List ℕ) (table : IsTable g m f) (k : ℕ) where
         pub can-flush : Flushable g t own
         can-flush = let w = meant (Flush less) h in planning.can-flush g k v own f (w .0) (w .1) t below words
 
-        long : length (flushed g t own) ≡ stride g
-        long = length-flushed g t own ∙ whole key .long
-
         -- the partition behind the flush
         behind : (m₁ : List ℕ) → m₁ ≡ within at (stride g) (flushed g t) m → partition g t m₁ ≡ flushed g t own
-        behind m₁ e = rw e (mid-within at (stride g) (flushed g t) m inside long)
+        behind m₁ e = changed-there g m (table .fine) (table .memoryFits) t below (flushed g t) (length-flushed g t) e
 
         can-store-behind : (m₁ : List ℕ) → m₁ ≡ within at (stride g) (flushed g t) m
             → Storable g k (partition g t m₁) × (less ≤ totalOf (partition g t m₁) + appends g k (partition g t m₁))
@@ -144,13 +139,13 @@ module _ (g : Geometry) (m f : List ℕ) (table : IsTable g m f) (k : ℕ) where
         flushes m₁ f₁ m′ e ef e′ =
             let w = meant (Flush less) h in
             let same : putIn g k v f own ≡ stores-in less (flushed g t own) = put-flushed g k own v f (w .1) ∙ rw (flushed-new g own (whole key) words t k can-flush, w .2) in
-            let both : within at (stride g) (putIn g k v f) m ≡ m′ =
-            within-same at (stride g) (putIn g k v f) (λ (p : List ℕ). stores-in less (flushed g t p)) m same
-            ∙ sym (within-twice at (stride g) (flushed g t) (stores-in less) m inside long (length-totalled _ less _ ∙ length-unlisted g k _ ∙ length-buffered g k v _ ∙ long))
-            ∙ ap (within at (stride g) (stores-in less)) (sym e) ∙ sym e′ in
+            let keeps : (p : List ℕ) → length (stores-in less p) ≡ length p = λ p. length-totalled _ less _ ∙ length-unlisted g k _ ∙ length-buffered g k v p in
+            let both : m′ ≡ within at (stride g) (putIn g k v f) m =
+            changed-again g m (table .fine) (table .memoryFits) t below (flushed g t) (length-flushed g t) e (stores-in less) keeps e′
+            ∙ sym (within-same at (stride g) (putIn g k v f) (λ (p : List ℕ). stores-in less (flushed g t p)) m same) in
             performing.doing (Call.put k v) m f (g .pages) m′ f₁ (checked ∙ w .0)
             (result-put (areas m f) g (table .own) k v true (w .1))
-            (effect-put (areas m f) g (table .own) k v true (w .1)) (sym both) ef
+            (effect-put (areas m f) g (table .own) k v true (w .1)) both ef
 
       -- ---- what is stored can be stored, and is what the definitions say
       module _ (bytes : (i : ℕ) → getD m i 0 < 256) (m₁ f₁ : List ℕ) (less pages : ℕ) where

@@ -1,16 +1,15 @@
 -- The filter and the list are those of `flushed`; the head is read before they change, and they leave it as it was.
-use Prim.Native.Nat.{ℕ, _+_, _≤_, _<_}
+use Prim.Native.Nat.{_≤_, _<_}
 use mathlib.Core.Path.{_≡_, refl, _∙_, ap}
 use native.Mathlib.Omega.{arith}
 use borrow.Author.Needs.{needs}
 use Rattle.model.specs.DeleteList.{unexpired}
-use Rattle.model.specs.Partition.{Head, unlistedHead, flushesOf, listedOf, listOf, slot}
+use Rattle.model.specs.Partition.{unlistedHead, flushesOf, listedOf, listOf}
 use Rattle.model.specs.Refusals.{lastFlush}
-use Rattle.model.specs.Flush.{filtered, delisted, headAfter}
+use Rattle.model.specs.Flush.{filtered, delisted}
 use Rattle.model.proofs.Sizes.{sizes, slot-is-lt}
 use Rattle.model.proofs.Heads.{head-fits, head-after}
 use Rattle.model.proofs.Checks.{pages-fit}
-use Rattle.head.specs.Heads.{asHead}
 use Rattle.head.proofs.Fields.{flushes-is, listed-is}
 use Rattle.partition.proofs.Inside.{list-inside}
 use Rattle.flushing.proofs.Preparing.{stay-at-most, filter-made, list-shortened, stay-as-were}

@@ -4,7 +4,6 @@ use mathlib.Core.Path.{_≡_, refl}
 use native.Mathlib.Omega.{arith}
 use lib.ListN.{length}
 use lib.Seq.{sets}
-use borrow.Author.Needs.{needs}
 use Rattle.model.specs.Bytes.{mid}
 use Rattle.words.proofs.Copying.{copy-length, copy-on}
 use Rattle.words.proofs.copy.Statement.{statement}
