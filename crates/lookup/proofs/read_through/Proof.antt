@@ -14,9 +14,9 @@ use Rattle.partition.proofs.Inside.{list-inside}
 use Rattle.geometry.proofs.Slots.{slot-after}
 use Rattle.answers.specs.Told.{answered}
 use Rattle.answers.specs.declared.Answer.the-variants.{Absent}
-use Rattle.get.proofs.Reading.{page-in-flash, AtBatch, AtEntry, at-start, own-filter, at-behind, at-hit, at-next, at-last, at-end, at-skip, at-bad, at-page}
-use Rattle.get.proofs.read_through.Statement.{statement}
-use Rattle.get.proofs.read_through.Tie as tie
+use Rattle.lookup.proofs.Reading.{page-in-flash, AtBatch, AtEntry, at-start, own-filter, at-behind, at-hit, at-next, at-last, at-end, at-skip, at-bad, at-page}
+use Rattle.lookup.proofs.read_through.Statement.{statement}
+use Rattle.lookup.proofs.read_through.Tie as tie
 
 abbrev Inv-loop : tie.InvT-loop
 Inv-loop part flash g key x t q count next j reads n at entries i₀ i =

@@ -11,8 +11,8 @@ use Rattle.model.proofs.Checks.{key-fits}
 use Rattle.model.proofs.Searching.{first-at}
 use Rattle.model.proofs.Sizes.{sizes, page-of-lt}
 use Rattle.records.proofs.Telling.{told-at}
-use Rattle.get.proofs.search_both.Statement.{statement}
-use Rattle.get.proofs.search_both.Tie as tie
+use Rattle.lookup.proofs.search_both.Statement.{statement}
+use Rattle.lookup.proofs.search_both.Tie as tie
 
 -- the key's page is one of the buffer's, and its used entries fit it
 fits : (c : tie.After-page-of) → let a = c .before .before .before .args in (c .page-of .result < a .g .pages) × (countOf (bufferOf (a .g) (a .part .now) (c .page-of .result)) ≤ capacity (a .g))

@@ -4,8 +4,8 @@ use borrow.Author.Needs.{needs}
 use Rattle.model.proofs.Checks.{key-fits}
 use Rattle.model.proofs.Lookup.{sought-listed, sought-unlisted}
 use Rattle.records.proofs.Telling.{told-at}
-use Rattle.get.proofs.lookup.Statement.{statement}
-use Rattle.get.proofs.lookup.Tie as tie
+use Rattle.lookup.proofs.lookup.Statement.{statement}
+use Rattle.lookup.proofs.lookup.Tie as tie
 
 find-requires : tie.Need-find-requires
 find-requires c κs = let p = c .before .before .pre in (p .0, key-fits _ _ _ (p .1 .0) .0)
