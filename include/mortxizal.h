@@ -10,7 +10,7 @@
  *
  * Every call is proved, on areas of any length and content, to answer and to
  * leave exactly what documents 01 and 02 say. A refused call has changed no
- * byte of either area.
+ * byte of any area.
  *
  * What the caller owes, since no C compiler checks it:
  *   - each area is as long as its length says, and may be read, and written
@@ -18,9 +18,9 @@
  *   - no pointer is NULL, also where its length is 0;
  *   - a length is below 2^63, and no area reaches past the end of the address
  *     space;
- *   - memory and flash do not overlap;
- *   - nobody else writes to either area during a call, nor reads what the call
- *     may write. Calls on other areas may run meanwhile.
+ *   - memory and flash do not overlap, and mx_text's text area overlaps neither;
+ *   - nobody else writes to an area during a call, nor reads what the call may
+ *     write. Calls on other areas may run meanwhile.
  */
 #ifndef MORTXIZAL_H
 #define MORTXIZAL_H
@@ -45,6 +45,7 @@ extern "C" {
  *   mx_view, a buffer page     MX_DONE      bytes                      begins
  *   mx_view, a page of flash   MX_DONE      bytes     1      1         begins
  *   mx_count                   MX_DONE      entries
+ *   mx_text                    MX_DONE                                 bytes
  *   any of them                MX_REFUSED   refusal   reads
  */
 typedef struct {
@@ -53,7 +54,7 @@ typedef struct {
                         count: entries */
     uint32_t reads;  /* flash pages read, also before a refusal */
     uint32_t batch;  /* found: 0 in the buffer, else the batch's number; view: 0 in memory, 1 in flash */
-    uint64_t value;  /* found: the value; view: where the page begins in that area */
+    uint64_t value;  /* found: the value; view: where the page begins in that area; text: its bytes */
 } mx_answer;
 
 /* mx_answer's status */
@@ -64,29 +65,32 @@ enum { MX_DONE = 0, MX_FOUND = 1, MX_NONE = 2, MX_REFUSED = 3 };
  * when its condition holds and no earlier one of its call does, and at no other
  * time. mx_format checks 1, 2, 3. The others check 2 (below 32 bytes), 11,
  * 2 (the need), 3, 4, 12 and then their own: mx_put 16, 13; mx_get 13 as it
- * reads; mx_del 14; mx_flush 15, 16, 13; mx_view 17, 13. Only mx_put checks 21,
- * behind 3 and before 12. Where mx_put, mx_del or mx_flush would end with a
- * total that cannot be, 12 comes last. Only 13 tells reads above 0.
+ * reads; mx_del 14; mx_flush 15, 16, 13; mx_view 17, 13; mx_text 13, 22. Only
+ * mx_put checks 21, behind 3 and before 12. Where mx_put, mx_del or mx_flush
+ * would end with a total that cannot be, 12 comes last. Only 13 tells reads
+ * above 0, and not that of mx_text.
  */
 enum {
     /* from the arguments */
     MX_REFUSED_GEOMETRY = 1,     /* mx_format: a number outside the table of mx_format */
     MX_REFUSED_SHORT_MEMORY = 2, /* all: memory is shorter than 32 bytes, or than the need */
     MX_REFUSED_SHORT_FLASH = 3,  /* all: flash is shorter than the need */
-    MX_REFUSED_OUT_OF_RANGE = 4, /* mx_flush, mx_view, mx_count: partition not below 2^s; mx_view: page not
-                                    below `pages` */
+    MX_REFUSED_OUT_OF_RANGE = 4, /* mx_flush, mx_view, mx_count, mx_text: partition not below 2^s; mx_view:
+                                    page not below `pages` */
     MX_REFUSED_NO_POSITION = 21, /* mx_put: the value is 0, where the sound store has nothing */
+    MX_REFUSED_SHORT_TEXT = 22,  /* mx_text: the text area is shorter than the text */
 
     /* from what the areas hold */
     MX_REFUSED_OPENING = 11,       /* all but mx_format: memory does not open with allowed numbers: it
                                       was never formatted, or is damaged */
     MX_REFUSED_OVERFULL = 12,      /* all but mx_format: damage: the partition lists more keys than it has
                                       places for, its total is above (kept + 1) * pages * (page / 16 - 1),
-                                      or a buffer page that the call reads counts more entries than fit;
+                                      or a buffer page that the call reads counts more entries than fit
+                                      (mx_text reads them all);
                                       mx_put, mx_del, mx_flush: the total would end above that, or below 0 */
-    MX_REFUSED_BATCH_PAGE = 13,    /* mx_get, mx_view, and mx_put and mx_flush where a batch goes: damage: a
-                                      page read from flash is not the one expected there. `reads` counts
-                                      it */
+    MX_REFUSED_BATCH_PAGE = 13,    /* mx_get, mx_view, mx_text, and mx_put and mx_flush where a batch goes:
+                                      damage: a page read from flash is not the one expected there. `reads`
+                                      counts it, but is 0 for mx_text */
     MX_REFUSED_LIST_FULL = 14,     /* mx_del: the key has to be listed and the list is full. Flushes of the
                                       partition free places */
     MX_REFUSED_BUFFER_EMPTY = 15,  /* mx_flush: there is nothing to flush */
@@ -206,6 +210,24 @@ mx_answer mx_view(const uint8_t *memory, size_t memory_len, const uint8_t *flash
  */
 mx_answer mx_count(const uint8_t *memory, size_t memory_len, const uint8_t *flash, size_t flash_len,
                    uint32_t partition);
+
+/*
+ * Writes a partition as lines of the session program: `(put key value)` and
+ * byte 10 for each key that mx_get finds, with the value found. The oldest batch
+ * comes first and the buffer last, and within a batch the lines stand by page
+ * and place of the entry. From a table that calls have made since mx_format, the
+ * lines, read into a fresh table of the same numbers, give every key of the
+ * partition the value that it had, or none; and they are at most as many as
+ * mx_count tells entries, of at most 48 bytes each.
+ *
+ * All pages of the buffer and of the live batches are read. Bytes of the text
+ * area behind the lines stay; where it is too short for them none is written.
+ *
+ * Answers MX_DONE with the bytes of the lines in answer.value, or refuses with
+ * 2, 3, 4, 11, 12, 13 or 22.
+ */
+mx_answer mx_text(const uint8_t *memory, size_t memory_len, const uint8_t *flash, size_t flash_len,
+                  uint32_t partition, uint8_t *text, size_t text_len);
 
 #ifdef __cplusplus
 }

@@ -3,16 +3,20 @@ use mathlib.Core.Path.{refl}
 use Rattle.model.specs.Text.{figures, past, leading, numberFrom, figure}
 use Rattle.model.specs.Session.{putLine, getLine, delLine, flushLine, countLine, formatLine, callOf, answerText, linePrints, lineLeaves, linesOf, zeroArea, linesPrint}
 use Rattle.model.proofs.Computing.{computing}
-use Rattle.cases.specs.Table.{writes, counts, rows, Agree, allFigures, session, formatting, changed, twoPut, written, writing}
+use Rattle.cases.specs.Table.{texts, writes, counts, rows, Agree, allFigures, session, formatting, changed, twoPut, written, writing, texted}
 
 -- what a row opens: the calls, the session's text and the table's own words
 unfoldable opened : Type 0
-unfolding computing Agree allFigures session formatting changed twoPut written writing figures past leading numberFrom figure putLine getLine delLine flushLine countLine formatLine callOf answerText linePrints lineLeaves linesOf zeroArea linesPrint
+unfolding computing Agree allFigures session formatting changed twoPut written writing texted figures past leading numberFrom figure putLine getLine delLine flushLine countLine formatLine callOf answerText linePrints lineLeaves linesOf zeroArea linesPrint
 opened = Unit {0}
+
+texts-agree : Agree texts
+unfolding opened texts
+texts-agree = (refl, (refl, (refl, (refl, (refl, (refl, tt))))))
 
 writes-agree : Agree writes
 unfolding opened writes
-writes-agree = (refl, (refl, (refl, (refl, tt))))
+writes-agree = (refl, (refl, (refl, (refl, texts-agree))))
 
 counts-agree : Agree counts
 unfolding opened counts

@@ -15,7 +15,7 @@ use Rattle.model.specs.Flush.{pageChecks, withBatchPage}
 use Rattle.model.specs.Answers.{Areas, Refusal, Answer, done, found, absent, shown, refused}
 use Rattle.model.specs.Text.{text}
 use Rattle.model.specs.Session.{linesOf, programAreas, linesPrint}
-use Rattle.model.specs.Calls.{Call, format, put, get, del, flush, count, partitionIn, reply, run, replies}
+use Rattle.model.specs.Calls.{Call, format, put, get, del, flush, count, partitionIn, reply, textLeft, run, replies}
 
 abbrev pub largest : Geometry
 largest = geometry 8 4096 64 32 65536 8 1024
@@ -38,6 +38,9 @@ withPage n = like n 1 2 3
 
 abbrev pub areas : ℕ → ℕ → Areas
 areas m f = record { memory = zeros m; flash = zeros f }
+
+abbrev pub sevens : ℕ → List ℕ
+sevens n = map (λ _. 7) (zeros n)
 
 -- the session's words for an answer
 abbrev pub ok : ℕ → List ℕ
@@ -91,7 +94,7 @@ twoPut memory = partition G 0 (memory (run (areas 144 128) (format G ∷ put 1 1
 
 -- the slots' pages after its page is written, where all flash bytes were 7: the first bytes of each
 unfoldable pub written : (List ℕ → List ℕ) → List (List ℕ)
-written memory = let f = withBatchPage G 0 (twoPut memory) 0 (map (λ _. 7) (zeros 128)) in take 20 f ∷ take 20 (drop 64 f) ∷ []
+written memory = let f = withBatchPage G 0 (twoPut memory) 0 (sevens 128) in take 20 f ∷ take 20 (drop 64 f) ∷ []
 
 abbrev pub refusal : Option Refusal → List ℕ
 refusal none = ok 0
@@ -100,6 +103,13 @@ refusal (some r) = refusedWith (r .number) (r .reads)
 -- what is checked before: page q of partition t
 unfoldable pub writing : (List ℕ → List ℕ) → ℕ → ℕ → List ℕ
 writing memory t q = refusal (pageChecks G t q (twoPut memory))
+
+-- what a text of partition t answers on areas that are changed so in between, and what it leaves of a text area of n bytes 7
+unfoldable pub texted : (List ℕ → List ℕ) → (List ℕ → List ℕ) → List Call → ℕ → ℕ → List (List ℕ)
+texted memory flash cs t n =
+    let a : Areas = run (areas 144 128) (format G ∷ cs) in
+    let b : Areas = record { memory = memory (a .memory); flash = flash (a .flash) } in
+    figures (reply b (Call.text t n)) ∷ textLeft b t (sevens n) ∷ []
 
 -- six keys that differ only above bit 16: the low 16 bits have the number of one stream
 abbrev pub stream : List ℕ
@@ -152,7 +162,31 @@ abbrev pub headed : ℕ → ℕ → List ℕ
 headed n number = n ∷ 0 ∷ 0 ∷ 0 ∷ 0 ∷ 0 ∷ 0 ∷ 0 ∷ number ∷ 0 ∷ 0 ∷ 0 ∷ 0 ∷ 0 ∷ 0 ∷ 0 ∷ 1 ∷ 0 ∷ 0 ∷ 0 ∷ []
 
 abbrev pub untouched : List ℕ
-untouched = take 20 (map (λ _. 7) (zeros 20))
+untouched = sevens 20
+
+-- a key of batch 1 in the buffer too
+abbrev pub twice : List Call
+twice = put 1 10 ∷ put 2 20 ∷ flush 0 ∷ put 3 30 ∷ put 1 11 ∷ []
+
+-- job 5
+unfoldable pub texts : List Row
+texts =
+    -- the text of the worked session: batch 1 without the listed key, then batch 2. It fits 33 bytes, and a surplus byte stays
+    answers (texted (λ m. m) (λ f. f) worked 0 33 ++ texted (λ m. m) (λ f. f) worked 0 34)
+    (ok 33 ∷ text "(put 1 10)\n(put 3 30)\n(put 0 40)\n" ∷ ok 33 ∷ (text "(put 1 10)\n(put 3 30)\n(put 0 40)\n" ++ sevens 1) ∷ [])
+    -- one byte less is too short, and nothing is written; an empty text fits an empty area
+    ∷ answers (texted (λ m. m) (λ f. f) worked 0 32 ++ texted (λ m. m) (λ f. f) [] 0 0) (refusedWith 22 0 ∷ sevens 32 ∷ ok 0 ∷ [] ∷ [])
+    -- the younger entry answers, and the buffer comes last
+    ∷ answers (texted (λ m. m) (λ f. f) twice 0 33) (ok 33 ∷ text "(put 2 20)\n(put 3 30)\n(put 1 11)\n" ∷ [])
+    -- batch 1 is live no more
+    ∷ answers (texted (λ m. m) (λ f. f) (batches ++ (put 4 40 ∷ flush 0 ∷ [])) 0 22) (ok 22 ∷ text "(put 3 30)\n(put 4 40)\n" ∷ [])
+    -- of a key twice in a page, the first; none where the filter of the batch does not pass
+    ∷ answers (texted (write 8 1 112) (λ f. f) (put 1 10 ∷ put 2 20 ∷ []) 0 11 ++ texted (write 8 0 64) (λ f. f) (put 1 10 ∷ flush 0 ∷ []) 0 0)
+    (ok 11 ∷ text "(put 1 10)\n" ∷ ok 0 ∷ [] ∷ [])
+    -- 4; 12 for L, for the total and for a buffer page; 13 with 0 reads, for either batch
+    ∷ answers (texted (λ m. m) (λ f. f) batches 1 1 ++ texted (write 4 2 36) (λ f. f) batches 0 1 ++ texted (write 4 10 40) (λ f. f) batches 0 1 ++ texted (write 2 4 80) (λ f. f) batches 0 1 ++ texted (λ m. m) (write 2 4 0) batches 0 1 ++ texted (λ m. m) (write 2 4 64) batches 0 1)
+    (refusedWith 4 0 ∷ sevens 1 ∷ refusedWith 12 0 ∷ sevens 1 ∷ refusedWith 12 0 ∷ sevens 1 ∷ refusedWith 12 0 ∷ sevens 1 ∷ refusedWith 13 0 ∷ sevens 1 ∷ refusedWith 13 0 ∷ sevens 1 ∷ [])
+    ∷ []
 
 -- job 4
 unfoldable pub writes : List Row
@@ -165,7 +199,7 @@ writes =
     -- 4 and 16, and no 12
     ∷ answers (writing (λ m. m) 0 0 ∷ writing (λ m. m) 1 0 ∷ writing (λ m. m) 0 1 ∷ writing (write 4 4294967295 32) 0 0 ∷ writing (write 2 4 80) 0 0 ∷ writing (write 4 2 36) 0 0 ∷ [])
     (ok 0 ∷ refusedWith 4 0 ∷ refusedWith 4 0 ∷ refusedWith 16 0 ∷ ok 0 ∷ ok 0 ∷ [])
-    ∷ []
+    ∷ texts
 
 -- job 3
 unfoldable pub counts : List Row

@@ -6,8 +6,10 @@ use Rattle.model.specs.Answers.{Areas, Answer}
 use Rattle.model.specs.Calls.{Call, format, reply, after, run, replies}
 use Rattle.history.specs.History.{History, heard, remember, events}
 use Rattle.history.specs.Claim.{isRefused, Demand3, Counts, CountsHeld}
+use Rattle.history.specs.Moving.{AllMove, TextMoves}
 use Rattle.history.proofs.Demand.{demand3}
 use Rattle.history.proofs.Counting.{counts-held}
+use Rattle.history.proofs.Moving.{text-moves}
 use Rattle.answers.specs.Performs.{areas}
 use Rattle.chain.specs.Chain.{Performed, none, next, heardOf, CallsKeepDemand3}
 
@@ -29,8 +31,11 @@ heard-events (c ∷ cs) a = ap (λ es. heard c (reply a c) ∷ es) (heard-events
 same-counts : {a a′ : Areas} {h h′ : History} → a′ ≡ a → h′ ≡ h → Counts a h → Counts a′ h′
 same-counts e e′ held = rw (e, e′) held
 
+same-moves : {a a′ : Areas} {h h′ : History} → a′ ≡ a → h′ ≡ h → AllMove a h → AllMove a′ h′
+same-moves e e′ held = rw (e, e′) held
+
 pub calls-keep-demand3 : CallsKeepDemand3
-unfolding CallsKeepDemand3 Demand3 CountsHeld
+unfolding CallsKeepDemand3 Demand3 CountsHeld TextMoves
 calls-keep-demand3 m f m′ f′ h g cs r rs (next p ps) accepted fits =
     let told = chain-answers (next p ps) in
     let left = chain-leaves (next p ps) in
@@ -41,4 +46,5 @@ calls-keep-demand3 m f m′ f′ h g cs r rs (next p ps) accepted fits =
       leaves = left;
       holds = rw (left, hears) (demand3 (areas m f) h g opened cs fits);
       counts = same-counts left (ap (remember h) hears) (counts-held (areas m f) h g opened cs fits);
+      moves = same-moves left (ap (remember h) hears) (text-moves (areas m f) h g opened cs fits);
     }

@@ -25,6 +25,14 @@ exported (absent cost) = answer 2 0 (cost .reads) 0 0
 exported (refused number reads) = answer 3 number reads 0 0
 exported (shown s) = stretch s
 
+-- of a text: its length is a value
+abbrev pub exportedText : Answer → MxAnswer
+exportedText (done bytes) = answer 0 0 0 0 bytes
+exportedText (found value cost place) = exported (found value cost place)
+exportedText (absent cost) = exported (absent cost)
+exportedText (refused number reads) = exported (refused number reads)
+exportedText (shown s) = exported (shown s)
+
 -- the bytes of a page are a 32-bit number
 abbrev pub SizeFits : Viewed → Type 0
 SizeFits (Viewed.Memory at size) = size < 2 ^ 32

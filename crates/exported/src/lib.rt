@@ -3,7 +3,7 @@ ghost use mathlib.Core.Path.{_≡_};
 ghost use Prim.Native.Nat.{_<_, _^_};
 ghost use Rattle.model.specs.Answers.{found};
 ghost use Rattle.answers.specs.Told.{asTally, refusing, written, place, answered, viewed};
-ghost use Rattle.exported.specs.Exported.{answer, batchOf, exported, SizeFits};
+ghost use Rattle.exported.specs.Exported.{answer, batchOf, exported, exportedText, SizeFits};
 use answers::Answer;
 use answers::Hit;
 use answers::Place;
@@ -50,6 +50,22 @@ pub fn of_written(outcome: Written) -> MxAnswer
             reads: 0,
             batch: 0,
             value: 0,
+        },
+        Written::Refused(refusal) => of_refusal(refusal),
+    }
+}
+
+// The length of a text.
+pub fn of_text(outcome: Written) -> MxAnswer
+    ensures { λ r. ⌜ r ≡ exportedText (written outcome) ⌝ }
+{
+    match outcome {
+        Written::Done(bytes) => MxAnswer {
+            status: DONE,
+            number: 0,
+            reads: 0,
+            batch: 0,
+            value: bytes as u64,
         },
         Written::Refused(refusal) => of_refusal(refusal),
     }

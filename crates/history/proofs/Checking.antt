@@ -1,5 +1,5 @@
--- On areas that show a table, with heads that count its entries, the checks come down to those of the arguments and of what the table holds: 4, 14, 15, 16, 17, 21.
--- Refusals 2, 3, 11 and 12 do not come up, neither does the 12 that comes last, nor the 13 of a put or a flush.
+-- On areas that show a table, with heads that count its entries, the checks come down to those of the arguments and of what the table holds: 4, 14, 15, 16, 17, 21, 22.
+-- Refusals 2, 3, 11 and 12 do not come up, neither does the 12 that comes last, nor the 13 of a put, a flush or a text.
 use Prim.Native.Nat.{ℕ, _^_, _≤_, _<_}
 use mathlib.Core.Bool.{true, false, not, _&&_, _||_, and-false}
 use mathlib.Core.Path.{_≡_, _∙_}
@@ -16,18 +16,19 @@ use Rattle.model.specs.Answers.{Areas, Refusal, unread}
 use Rattle.model.specs.Refusals.{refuseIf, unopened, headOverfull, keyOverfull, somePageOverfull, lastFlush}
 use Rattle.model.specs.Flush.{inUse}
 use Rattle.model.specs.Put.{noPosition, due}
-use Rattle.model.specs.Calls.{put, get, del, flush, view, count, checks}
+use Rattle.model.specs.PartitionText.{partitionText}
+use Rattle.model.specs.Calls.{put, get, del, flush, view, count, text, checks}
 use Rattle.model.proofs.Sizes.{page-of-lt, partition-of-lt}
 use Rattle.model.proofs.Tests.{either}
 use Rattle.model.proofs.Heads.{fits-head}
-use Rattle.model.proofs.Checks.{fits-page, fits-pages, fits-key, get-passes, put-21, put-undue, put-due, del-full, due-last, flush-4, flush-last, count-4, count-passes, view-4, view-last}
-use Rattle.model.proofs.Calls.{checks-put, checks-get, checks-del, checks-flush, checks-view, checks-count}
+use Rattle.model.proofs.Checks.{fits-page, fits-pages, fits-key, get-passes, put-21, put-undue, put-due, del-full, due-last, flush-4, flush-last, count-4, count-passes, text-4, text-room, view-4, view-last}
+use Rattle.model.proofs.Calls.{checks-put, checks-get, checks-del, checks-flush, checks-view, checks-count, checks-text}
 use Rattle.history.proofs.Table.{Part, mustList, due as dueIn}
 use Rattle.history.proofs.Core.{PartOk}
 use Rattle.history.proofs.Totals.{all-most}
 use Rattle.history.proofs.Shows.{ShowsPart, list-count}
 use Rattle.history.proofs.Passing.{must-list-shown}
-use Rattle.history.proofs.Totalling.{due-shown, heads-shown}
+use Rattle.history.proofs.Totalling.{due-shown, heads-shown, batches-shown}
 use Rattle.history.proofs.Ends.{Counted, flush-in, put-in, flushed-put-in, del-in}
 use Rattle.history.proofs.Areas.{Shows, AllCounted, shows-opens}
 
@@ -66,6 +67,10 @@ module _ (a : Areas) (g : Geometry) (ps : ℕ → Part) (shows : Shows a g ps) (
     pub count-checks : checks a (count t) ≡ none
     count-checks = checks-count a g (shows .geometry) opening t ∙ count-passes g t p below head-ok
 
+    pub text-checks : (room : ℕ) → checks a (text t room) ≡ refuseIf (ltb room (length (partitionText g t p (a .flash)))) 22 none
+    text-checks room =
+        checks-text a g (shows .geometry) opening t room ∙ text-room g t room p (a .flash) below head-ok pages-ok (batches-shown g (shows .ok) t p _ _ at (fits t))
+
     pub view-checks : (q n : ℕ) → q < g .pages → checks a (view t q n) ≡ refuseIf (not (eqb n 0) && not (isLive g (headOf p) n)) 17 none
     view-checks q n l =
         checks-view a g (shows .geometry) opening t q n ∙ view-last g t q n p below l head-ok (rw (fits-page g p q (at .buffer q l .fits)) (and-false (eqb n 0)))
@@ -76,6 +81,9 @@ module _ (a : Areas) (g : Geometry) (ps : ℕ → Part) (shows : Shows a g ps) (
 
   pub count-out : (t : ℕ) → partitions g ≤ t → checks a (count t) ≡ some (unread 4)
   count-out t l = checks-count a g (shows .geometry) opening t ∙ count-4 g t _ l
+
+  pub text-out : (t room : ℕ) → partitions g ≤ t → checks a (text t room) ≡ some (unread 4)
+  text-out t room l = checks-text a g (shows .geometry) opening t room ∙ text-4 g t room _ (a .flash) l
 
   pub view-out : (t q n : ℕ) → not (ltb t (partitions g)) || not (ltb q (g .pages)) ≡ true → checks a (view t q n) ≡ some (unread 4)
   view-out t q n e = checks-view a g (shows .geometry) opening t q n ∙ view-4 g t q n _ e

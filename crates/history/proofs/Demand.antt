@@ -25,7 +25,7 @@ use Rattle.history.proofs.Following.{follows}
 use Rattle.history.proofs.Checking.{get-checks}
 use Rattle.history.proofs.InStep.{InStep, format-keeps}
 use Rattle.history.proofs.Step.{step}
-use Rattle.history.proofs.Positions.{NoZeros, no-zeros, value-nonzero}
+use Rattle.history.proofs.Positions.{AllPositions, all-positions, value-nonzero}
 
 module _ (a : Areas) (h : History) (inv : InStep a h) where
   abbrev g : Geometry
@@ -55,13 +55,13 @@ module _ (a : Areas) (h : History) (inv : InStep a h) where
         rw answers
         (lookedUp-says g k s within (page-of-lt g (inv .shows .ok) k) (find k (s .list)) (find k (s .buffer (pageOf g k))) (h .keys k) refl (inv .good .core .keys k))
 
-    right : NoZeros h → Right a h k
-    right zeros =
+    right : AllPositions h → Right a h k
+    right positions =
         let m = find k (s .list) in
         let b = find k (s .buffer (pageOf g k)) in
         record {
           says = says;
-          nonzero = λ e. value-nonzero (h .keys k) (zeros k) (sym says ∙ e);
+          nonzero = λ e. value-nonzero (h .keys k) (positions k) (sym says ∙ e);
           reads = rw (answers, lookedUp-reads g k s within m b, inv .good .core .lives (partitionOf g k)) (omega (arith, live-count s (batchesFor g k s m b) (batches-live g k s within m b)));
           counts = rw (answers, reads) (lookedUp-reads g k s within m b);
           follows = follows a k;
@@ -69,8 +69,8 @@ module _ (a : Areas) (h : History) (inv : InStep a h) where
               (live-falling g (inv .shows .ok) k _ (a .flash) s shown within (suc (s .flushes)) (batchesFor g k s m b) (batches-live g k s within m b));
         }
 
-  holds : NoZeros h → Holds a h
-  holds zeros = record { each = λ k hk. right k hk zeros; writes = omega (arith, inv .good .credit) }
+  holds : AllPositions h → Holds a h
+  holds positions = record { each = λ k hk. right k hk positions; writes = omega (arith, inv .good .credit) }
 
 pub in-step : FromFormat InStep
 in-step = from-format InStep format-keeps step
@@ -78,4 +78,4 @@ in-step = from-format InStep format-keeps step
 pub demand3 : Demand3
 unfolding Demand3
 demand3 a h g accepted cs fits =
-    holds (run a (format g ∷ cs)) (remember h (events a (format g ∷ cs))) (in-step a h g accepted cs fits) (no-zeros a h g accepted cs fits)
+    holds (run a (format g ∷ cs)) (remember h (events a (format g ∷ cs))) (in-step a h g accepted cs fits) (all-positions a h g accepted cs fits)

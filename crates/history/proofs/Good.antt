@@ -56,7 +56,7 @@ good-blank g fine = record {
 }
 
 module _ (g : Geometry) (k : ℕ) (p : Part) where
-  due-full : due g k p ≡ true → capacity g ≤ length (p .buffer (pageOf g k))
+  pub due-full : due g k p ≡ true → capacity g ≤ length (p .buffer (pageOf g k))
   unfolding due
   due-full h =
       let full = both-true (not (isSome (find k (p .buffer (pageOf g k))))) _ h .1 in

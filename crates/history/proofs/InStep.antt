@@ -34,18 +34,29 @@ pub record InStep (a : Areas) (h : History) : Type 0 where
   pub counted : AllCounted a (h .geometry) table
   pub good : Good table h
 
+-- by this table
+pub record InStepBy (a : Areas) (h : History) (ps : ℕ → Part) : Type 0 where
+  pub shows : Shows a (h .geometry) ps
+  pub counted : AllCounted a (h .geometry) ps
+  pub good : Good ps h
+
+abbrev pub by-table : {a : Areas} {h : History} {ps : ℕ → Part} → InStepBy a h ps → InStep a h
+by-table {ps} by = record { table = ps; shows = by .shows; counted = by .counted; good = by .good }
+
 fine-of : (g : Geometry) → allowed g ≡ true → Fine g
 fine-of g ok = record { pageBelow = page-of-lt g ok; somePage = sizes g ok .pages-min; someEntry = omega (arith, sizes g ok .capacity-min) }
 
-pub format-keeps : (a : Areas) (g : Geometry) → checks a (format g) ≡ none → InStep (effect a (format g)) (blank g)
-format-keeps a g e =
+pub format-kept : (a : Areas) (g : Geometry) → checks a (format g) ≡ none → InStepBy (effect a (format g)) (blank g) (λ t. empty)
+format-kept a g e =
     let passed = format-accepted g a (sym (checks-format a g) ∙ e) in
     rw (effect-format a g) (record {
-      table = λ t. empty;
       shows = shows-formatted g (passed .0) a (passed .1) (passed .2);
       counted = counted-formatted g (passed .0) a (passed .1);
       good = good-blank g (fine-of g (passed .0));
     })
+
+pub format-keeps : (a : Areas) (g : Geometry) → checks a (format g) ≡ none → InStep (effect a (format g)) (blank g)
+format-keeps a g e = by-table (format-kept a g e)
 
 -- flash with the batch of partition t written
 abbrev pub batchWritten : Areas → Geometry → ℕ → List ℕ

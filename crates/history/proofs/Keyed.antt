@@ -2,7 +2,7 @@
 use Prim.Native.Nat.{ℕ, _^_, _<_}
 use mathlib.Core.Bool.{Bool, true, false, cond, _&&_}
 use mathlib.Core.Path.{_≡_, refl, sym, _∙_}
-use mathlib.Core.Option.{none}
+use mathlib.Core.Option.{none, some}
 use native.Mathlib.Omega.{arith}
 use lib.Dec.{eqb}
 use lib.ListN.{length}
@@ -21,7 +21,7 @@ use Rattle.model.proofs.Partitions.{modify}
 use Rattle.model.proofs.Checks.{refuse-none}
 use Rattle.model.proofs.Calls.{result-put, effect-put, effect-del}
 use Rattle.model.proofs.Tests.{numbers}
-use Rattle.history.specs.History.{History, withKey, putting, note}
+use Rattle.history.specs.History.{History, aged, withKey, counted, putting, note}
 use Rattle.history.proofs.Modify.{modify-twice}
 use Rattle.history.proofs.Table.{Part, mustList, due as dueIn, flushed as flushedPart, stored as storedPart, deleted as deletedPart}
 use Rattle.history.proofs.Core.{PartOk}
@@ -29,7 +29,15 @@ use Rattle.history.proofs.Good.{good-del, good-put}
 use Rattle.history.proofs.Totalling.{due-shown}
 use Rattle.history.proofs.Ends.{Counted, put-counted, flushed-put-counted, del-counted}
 use Rattle.history.proofs.Checking.{put-checks, del-checks}
-use Rattle.history.proofs.InStep.{InStep, counted-at, next-number, changed-counted, kept-shown, written-shown}
+use Rattle.history.proofs.InStep.{InStep, InStepBy, by-table, counted-at, next-number, changed-counted, kept-shown, written-shown}
+
+-- what a put makes of the table and of the history, with a flush before it or without one
+abbrev pub tablePut : Geometry → (ℕ → Part) → ℕ → ℕ → Bool → ℕ → Part
+tablePut g ps k v b = modify (partitionOf g k) (storedPart g k v) (cond b (modify (partitionOf g k) (flushedPart g) ps) ps)
+
+abbrev pub historyPut : History → ℕ → ℕ → Bool → History
+historyPut h k v b =
+    counted (cond b (h .geometry .pages) 0) (withKey k (some (record { value = v; age = 0 })) (cond b (aged (partitionOf (h .geometry) k) h) h))
 
 module _ (a : Areas) (h : History) (inv : InStep a h) (k : ℕ) (hk : k < 2 ^ 64) where
   abbrev g : Geometry
@@ -79,25 +87,27 @@ module _ (a : Areas) (h : History) (inv : InStep a h) (k : ℕ) (hk : k < 2 ^ 64
         let free = refuse-none (dueIn g k s && eqb (flushesOf (partition g t (a .memory))) lastFlush) 16 none later .0 in
         simp d at free
 
+    pub put-kept : checks a (put k v) ≡ none → (b : Bool) → dueIn g k s ≡ b → InStepBy (effect a (put k v)) (historyPut h k v b) (tablePut g (inv .table) k v b)
+    put-kept e false d =
+        let now = put-counted g (inv .shows .ok) t _ _ s was part k v d hk hv in
+        rw (effect-put a g (inv .shows .geometry) k v false (is-due ∙ d)) (record {
+          shows = kept-shown a h inv t below (putIn g k v (a .flash)) (storedPart g k v) now;
+          counted = changed-counted a h inv t below (putIn g k v (a .flash)) (storedPart g k v) _ now;
+          good = good-put (inv .table) h (inv .good) k v below false d;
+        })
+    put-kept e true d =
+        let both : Part → Part = λ x. storedPart g k v (flushedPart g x) in
+        let now = flushed-put-counted g (inv .shows .ok) t _ _ s was part k v hk hv d refl below (inv .shows .flashFits) (next-number a h inv t below (number-left e d)) in
+        rw (effect-put a g (inv .shows .geometry) k v true (is-due ∙ d)) (record {
+          shows = rw (modify-twice t (storedPart g k v) (flushedPart g) (inv .table)) (written-shown a h inv t below (putIn g k v (a .flash)) both now);
+          counted = rw (modify-twice t (storedPart g k v) (flushedPart g) (inv .table)) (changed-counted a h inv t below (putIn g k v (a .flash)) both _ now);
+          good = good-put (inv .table) h (inv .good) k v below true d;
+        })
+
     pub put-keeps : checks a (put k v) ≡ none → InStep (effect a (put k v)) (note h (putting k v (cond (dueIn g k s) (g .pages) 0)))
     unfolding note
     put-keeps e = go (dueIn g k s) refl
       where
         go : (b : Bool) → dueIn g k s ≡ b → InStep (effect a (put k v)) (note h (putting k v (cond b (g .pages) 0)))
-        go false d =
-            let now = put-counted g (inv .shows .ok) t _ _ s was part k v d hk hv in
-            rw (effect-put a g (inv .shows .geometry) k v false (is-due ∙ d)) (record {
-              table = modify t (storedPart g k v) (inv .table);
-              shows = kept-shown a h inv t below (putIn g k v (a .flash)) (storedPart g k v) now;
-              counted = changed-counted a h inv t below (putIn g k v (a .flash)) (storedPart g k v) _ now;
-              good = good-put (inv .table) h (inv .good) k v below false d;
-            })
-        go true d =
-            let both : Part → Part = λ x. storedPart g k v (flushedPart g x) in
-            let now = flushed-put-counted g (inv .shows .ok) t _ _ s was part k v hk hv d refl below (inv .shows .flashFits) (next-number a h inv t below (number-left e d)) in
-            rw (effect-put a g (inv .shows .geometry) k v true (is-due ∙ d), ne-eqb (g .pages) 0 (omega (arith, inv .good .fine .somePage))) (record {
-              table = modify t (storedPart g k v) (modify t (flushedPart g) (inv .table));
-              shows = rw (modify-twice t (storedPart g k v) (flushedPart g) (inv .table)) (written-shown a h inv t below (putIn g k v (a .flash)) both now);
-              counted = rw (modify-twice t (storedPart g k v) (flushedPart g) (inv .table)) (changed-counted a h inv t below (putIn g k v (a .flash)) both _ now);
-              good = good-put (inv .table) h (inv .good) k v below true d;
-            })
+        go false d = by-table (put-kept e false d)
+        go true d = rw (ne-eqb (g .pages) 0 (omega (arith, inv .good .fine .somePage))) (by-table (put-kept e true d))

@@ -33,3 +33,11 @@ pub mod Refusing
 pub mod Lasting
 pub mod OldFault
 pub mod Samples
+pub mod TextRoom
+pub mod TextLines
+pub mod LineReading
+pub mod Replay
+pub mod ReplayState
+pub mod ReplayLine
+pub mod ReplayText
+pub mod Moving

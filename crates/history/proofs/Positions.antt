@@ -1,5 +1,5 @@
--- A put of 0 is refused on any areas. So the history never hears of one, and no key has the value 0 from a format on.
-use Prim.Native.Nat.{ℕ, _+_}
+-- A put of 0 is refused on any areas. So the history never hears of one: from a format on each key that it knows has a value of 64 bits that is not 0.
+use Prim.Native.Nat.{ℕ, _+_, _^_, _<_}
 use mathlib.Core.Bool.{Bool, true, false, cond, true≢false}
 use mathlib.Core.Path.{_≡_, refl, sym, _∙_, ap}
 use mathlib.Core.Option.{Option, none, some}
@@ -7,53 +7,58 @@ use native.Mathlib.Omega.{arith}
 use lib.Dec.{eqb, ltb}
 use Rattle.model.specs.Keys.{partitionOf}
 use Rattle.model.specs.Answers.{Areas, Refusal, Answer, done, found, absent, shown, refused}
-use Rattle.model.specs.Calls.{Call, format, put, get, del, flush, view, count, checks, reply}
+use Rattle.model.specs.Calls.{Call, format, put, get, del, flush, view, count, text, checks, reply}
 use Rattle.model.proofs.Calls.{put-not-0, reply-refused}
 use Rattle.history.specs.History.{Known, History, older, aged, accepted, heard, note}
-use Rattle.history.specs.Claim.{isRefused, valueOf, FromFormat}
+use Rattle.history.specs.Claim.{Fits, isRefused, valueOf, FromFormat}
 use Rattle.history.proofs.FromFormat.{from-format}
 
--- what the history knows of a key is not the value 0
-abbrev pub Nonzero : Option Known → Type 0
-Nonzero none = Unit {0}
-Nonzero (some w) = w .value ≡ 0 → ⊥
+-- what the history knows of a key is a position: not 0, and of 64 bits
+abbrev pub IsPosition : ℕ → Type 0
+IsPosition v = (v ≡ 0 → ⊥) × (v < 2 ^ 64)
 
-abbrev pub NoZeros : History → Type 0
-NoZeros h = (k : ℕ) → Nonzero (h .keys k)
+abbrev pub Position : Option Known → Type 0
+Position none = Unit {0}
+Position (some w) = IsPosition (w .value)
 
-cond-nonzero : (b : Bool) (x y : Option Known) → Nonzero x → Nonzero y → Nonzero (cond b x y)
-cond-nonzero true x y p q = p
-cond-nonzero false x y p q = q
+abbrev pub AllPositions : History → Type 0
+AllPositions h = (k : ℕ) → Position (h .keys k)
 
-older-nonzero : (kept : ℕ) (o : Option Known) → Nonzero o → Nonzero (older kept o)
+cond-position : (b : Bool) (x y : Option Known) → Position x → Position y → Position (cond b x y)
+cond-position true x y p q = p
+cond-position false x y p q = q
+
+older-position : (kept : ℕ) (o : Option Known) → Position o → Position (older kept o)
 unfolding older
-older-nonzero kept none p = tt
-older-nonzero kept (some w) p = cond-nonzero (ltb kept (w .age + 1)) none (some (record { value = w .value; age = w .age + 1 })) tt p
+older-position kept none p = tt
+older-position kept (some w) p = cond-position (ltb kept (w .age + 1)) none (some (record { value = w .value; age = w .age + 1 })) tt p
 
-aged-nonzero : (t : ℕ) (h : History) → NoZeros h → NoZeros (aged t h)
-aged-nonzero t h p k = cond-nonzero (eqb (partitionOf (h .geometry) k) t) _ _ (older-nonzero (h .geometry .kept) (h .keys k) (p k)) (p k)
+aged-position : (t : ℕ) (h : History) → AllPositions h → AllPositions (aged t h)
+aged-position t h p k = cond-position (eqb (partitionOf (h .geometry) k) t) _ _ (older-position (h .geometry .kept) (h .keys k) (p k)) (p k)
 
-accepted-nonzero : (h : History) (c : Call) (n : ℕ) → ((k : ℕ) → c ≡ put k 0 → ⊥) → NoZeros h → NoZeros (note h (accepted c n))
+accepted-position : (h : History) (c : Call) (n : ℕ) → Fits c → ((k : ℕ) → c ≡ put k 0 → ⊥) → AllPositions h → AllPositions (note h (accepted c n))
 unfolding note
-accepted-nonzero h (format g) n other p k = tt
-accepted-nonzero h (put j v) n other p k = cond-nonzero (eqb k j) (some (record { value = v; age = 0 })) _ (λ z. other j (ap (put j) z)) (flushed (eqb n 0) k)
+accepted-position h (format g) n fits other p k = tt
+accepted-position h (put j v) n fits other p k =
+    cond-position (eqb k j) (some (record { value = v; age = 0 })) _ ((λ z. other j (ap (put j) z)), fits .1) (flushed (eqb n 0) k)
   where
-    flushed : (b : Bool) → NoZeros (cond b h (aged (partitionOf (h .geometry) j) h))
+    flushed : (b : Bool) → AllPositions (cond b h (aged (partitionOf (h .geometry) j) h))
     flushed true = p
-    flushed false = aged-nonzero (partitionOf (h .geometry) j) h p
-accepted-nonzero h (get j) n other p k = p k
-accepted-nonzero h (del j) n other p k = cond-nonzero (eqb k j) none (h .keys k) tt (p k)
-accepted-nonzero h (flush t) n other p k = aged-nonzero t h p k
-accepted-nonzero h (view t q m) n other p k = p k
-accepted-nonzero h (count t) n other p k = p k
+    flushed false = aged-position (partitionOf (h .geometry) j) h p
+accepted-position h (get j) n fits other p k = p k
+accepted-position h (del j) n fits other p k = cond-position (eqb k j) none (h .keys k) tt (p k)
+accepted-position h (flush t) n fits other p k = aged-position t h p k
+accepted-position h (view t q m) n fits other p k = p k
+accepted-position h (count t) n fits other p k = p k
+accepted-position h (text t room) n fits other p k = p k
 
-heard-nonzero : (h : History) (c : Call) (x : Answer) → (isRefused x ≡ false → (k : ℕ) → c ≡ put k 0 → ⊥) → NoZeros h → NoZeros (note h (heard c x))
+heard-position : (h : History) (c : Call) (x : Answer) → Fits c → (isRefused x ≡ false → (k : ℕ) → c ≡ put k 0 → ⊥) → AllPositions h → AllPositions (note h (heard c x))
 unfolding note
-heard-nonzero h c (done n) other p = accepted-nonzero h c n (other refl) p
-heard-nonzero h c (found v t q) other p = accepted-nonzero h c 0 (other refl) p
-heard-nonzero h c (absent t) other p = accepted-nonzero h c 0 (other refl) p
-heard-nonzero h c (shown s) other p = accepted-nonzero h c 0 (other refl) p
-heard-nonzero h c (refused n r) other p = p
+heard-position h c (done n) fits other p = accepted-position h c n fits (other refl) p
+heard-position h c (found v t q) fits other p = accepted-position h c 0 fits (other refl) p
+heard-position h c (absent t) fits other p = accepted-position h c 0 fits (other refl) p
+heard-position h c (shown s) fits other p = accepted-position h c 0 fits (other refl) p
+heard-position h c (refused n r) fits other p = p
 
 not-refused : (a : Areas) (c : Call) → isRefused (reply a c) ≡ false → (k : ℕ) → c ≡ put k 0 → ⊥
 not-refused a c e k own = go (checks a c) refl
@@ -62,10 +67,10 @@ not-refused a c e k own = go (checks a c) refl
     go (some r) x = true≢false (sym (ap isRefused (reply-refused a c r x)) ∙ e)
     go none x = put-not-0 a k (rw own at x)
 
-pub no-zeros : FromFormat (λ a h. NoZeros h)
-no-zeros = from-format (λ a h. NoZeros h) (λ a g passed k. tt) (λ a h p c fits. heard-nonzero h c (reply a c) (not-refused a c) p)
+pub all-positions : FromFormat (λ a h. AllPositions h)
+all-positions = from-format (λ a h. AllPositions h) (λ a g passed k. tt) (λ a h p c fits. heard-position h c (reply a c) fits (not-refused a c) p)
 
--- and so none is shown
-pub value-nonzero : (o : Option Known) → Nonzero o → some (valueOf o) ≡ some (some 0) → ⊥
+-- and so no 0 is shown
+pub value-nonzero : (o : Option Known) → Position o → some (valueOf o) ≡ some (some 0) → ⊥
 value-nonzero none p e = let z : _≡_ {A = ℕ} 0 1 = cc in omega arith
-value-nonzero (some w) p e = p cc
+value-nonzero (some w) p e = p .0 cc

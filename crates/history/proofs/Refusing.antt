@@ -1,5 +1,5 @@
 -- While areas and history are in step, a call is refused for its arguments or for what the table holds, and for nothing else: 2, 3, 11, 12 and 13 do not come up.
--- That is so of the 12 that comes last too, which judges the total at the call's end, and of the 13 for a head that a put or a flush reads.
+-- That is so of the 12 that comes last too, which judges the total at the call's end, and of the 13 for a head that a put, a flush or a text reads.
 use Prim.Native.Nat.{ℕ, _<_}
 use mathlib.Core.Bool.{Bool, true, false, false≢true, not, _&&_, _||_}
 use mathlib.Core.Path.{_≡_, refl, sym}
@@ -20,17 +20,18 @@ use Rattle.model.specs.Flush.{inUse}
 use Rattle.model.specs.Put.{noPosition}
 use Rattle.model.specs.Format.{formatChecks}
 use Rattle.model.specs.View.{viewed}
-use Rattle.model.specs.Calls.{Call, format, put, get, del, flush, view, count, checks, result, reply}
+use Rattle.model.specs.PartitionText.{partitionText}
+use Rattle.model.specs.Calls.{Call, format, put, get, del, flush, view, count, text, checks, result, reply}
 use Rattle.model.proofs.Tests.{either, both-true}
 use Rattle.model.proofs.Tables.{any}
 use Rattle.model.proofs.Checks.{refuse-none, format-1, format-2, format-3, format-passes}
-use Rattle.model.proofs.Calls.{checks-format, result-format, result-put, result-del, result-flush, result-view, result-count, reply-refused, reply-accepted, viewed-page}
+use Rattle.model.proofs.Calls.{checks-format, result-format, result-put, result-del, result-flush, result-view, result-count, result-text, reply-refused, reply-accepted, viewed-page}
 use Rattle.history.specs.History.{History}
 use Rattle.history.specs.Claim.{Fits, said}
 use Rattle.history.proofs.Table.{Part, due, mustList}
 use Rattle.history.proofs.Pages.{page-expected}
 use Rattle.history.proofs.Shows.{live-by-table}
-use Rattle.history.proofs.Checking.{put-checks, del-checks, flush-out, flush-checks, view-out, view-checks, count-out, count-checks}
+use Rattle.history.proofs.Checking.{put-checks, del-checks, flush-out, flush-checks, view-out, view-checks, count-out, count-checks, text-out, text-checks}
 use Rattle.history.proofs.InStep.{InStep}
 use Rattle.history.proofs.Demand.{says}
 
@@ -43,6 +44,7 @@ possible (del k) = 14 ∷ []
 possible (flush t) = 4 ∷ 15 ∷ 16 ∷ []
 possible (view t q n) = 4 ∷ 17 ∷ []
 possible (count t) = 4 ∷ []
+possible (text t room) = 4 ∷ 22 ∷ []
 
 -- a refusal of these, with no reads
 abbrev pub Among : List ℕ → Answer → Type 0
@@ -142,3 +144,7 @@ module _ (a : Areas) (h : History) (inv : InStep a h) where
       (λ l. among a (count t) _ _ (count-checks a g (inv .table) (inv .shows) (inv .counted) (inv .good .core .parts) t (ltb-true t (partitions g) l)) tt
       (λ e. rw (result-count a _ refl t) tt))
       (λ l. rw (reply-refused a (count t) (unread 4) (count-out a g (inv .table) (inv .shows) (inv .counted) (inv .good .core .parts) t (ltb-false t (partitions g) l))) (refl, refl))
+  refusals-possible (text t room) fits = either (ltb t (partitions g))
+      (λ l. among a (text t room) _ _ (text-checks a g (inv .table) (inv .shows) (inv .counted) (inv .good .core .parts) t (ltb-true t (partitions g) l) room)
+      (give-if (4 ∷ 22 ∷ []) (ltb room (length (partitionText g t (p t) (a .flash)))) 22 none refl tt) (λ e. rw (result-text a _ refl t room) tt))
+      (λ l. rw (reply-refused a (text t room) (unread 4) (text-out a g (inv .table) (inv .shows) (inv .counted) (inv .good .core .parts) t room (ltb-false t (partitions g) l))) (refl, refl))

@@ -1,11 +1,11 @@
 -- Every call keeps areas and history in step.
 use Prim.Native.Nat.{ℕ}
-use mathlib.Core.Path.{_≡_, refl}
+use mathlib.Core.Path.{_≡_, refl, ap}
 use mathlib.Core.Option.{none}
 use Rattle.model.specs.Answers.{Areas, Answer, done, found, absent, shown, refused}
-use Rattle.model.specs.Calls.{Call, format, put, get, del, flush, view, count, checks, result, reply, effect, after}
-use Rattle.model.proofs.Calls.{result-del, result-format, result-flush, effect-get, effect-view, effect-count, after-same}
-use Rattle.history.specs.History.{History, accepted, heard, note}
+use Rattle.model.specs.Calls.{Call, format, put, get, del, flush, view, count, text, checks, result, reply, effect, after}
+use Rattle.model.proofs.Calls.{result-del, result-format, result-flush, effect-get, effect-view, effect-count, effect-text, after-same}
+use Rattle.history.specs.History.{History, looking, accepted, heard, note}
 use Rattle.history.specs.Claim.{Fits}
 use Rattle.history.proofs.FromFormat.{outcome}
 use Rattle.history.proofs.InStep.{InStep, format-keeps, flush-keeps}
@@ -17,37 +17,25 @@ module _ (a : Areas) (h : History) (inv : InStep a h) where
   unfolding note
   unless-refused c n ends kept = outcome a c n (λ a′ x. InStep a′ (note h (heard c x))) ends (λ m r. inv) kept
 
-  -- get, view and count change nothing, whatever they answer
-  get-heard : (k : ℕ) (x : Answer) → note h (heard (get k) x) ≡ h
+  -- get, view, count and text change nothing, whatever they answer
+  looks-heard : (c : Call) → ((n : ℕ) → accepted c n ≡ looking) → (x : Answer) → note h (heard c x) ≡ h
   unfolding note
-  get-heard k (done n) = refl
-  get-heard k (found v r p) = refl
-  get-heard k (absent r) = refl
-  get-heard k (shown s) = refl
-  get-heard k (refused n r) = refl
+  looks-heard c looks (done n) = ap (note h) (looks n)
+  looks-heard c looks (found v r p) = ap (note h) (looks 0)
+  looks-heard c looks (absent r) = ap (note h) (looks 0)
+  looks-heard c looks (shown s) = ap (note h) (looks 0)
+  looks-heard c looks (refused n r) = refl
 
-  view-heard : (t q n : ℕ) (x : Answer) → note h (heard (view t q n) x) ≡ h
-  unfolding note
-  view-heard t q n (done m) = refl
-  view-heard t q n (found v r p) = refl
-  view-heard t q n (absent r) = refl
-  view-heard t q n (shown s) = refl
-  view-heard t q n (refused m r) = refl
-
-  count-heard : (t : ℕ) (x : Answer) → note h (heard (count t) x) ≡ h
-  unfolding note
-  count-heard t (done n) = refl
-  count-heard t (found v r p) = refl
-  count-heard t (absent r) = refl
-  count-heard t (shown s) = refl
-  count-heard t (refused n r) = refl
+  looks : (c : Call) → ((n : ℕ) → accepted c n ≡ looking) → effect a c ≡ a → InStep (after a c) (note h (heard c (reply a c)))
+  looks c only same = rw (after-same a c same, looks-heard c only (reply a c)) inv
 
   pub step : (c : Call) → Fits c → InStep (after a c) (note h (heard c (reply a c)))
   unfolding note
   step (format g) fits = unless-refused (format g) 0 (result-format a g) (format-keeps a g)
   step (put k v) fits = unless-refused (put k v) _ (put-result a h inv k (fits .0) v (fits .1)) (put-keeps a h inv k (fits .0) v (fits .1))
-  step (get k) fits = rw (after-same a (get k) (effect-get a k), get-heard k (reply a (get k))) inv
+  step (get k) fits = looks (get k) (λ n. refl) (effect-get a k)
   step (del k) fits = unless-refused (del k) 0 (result-del a k) (del-keeps a h inv k fits)
   step (flush t) fits = unless-refused (flush t) _ (result-flush a _ refl t) (flush-keeps a h inv t)
-  step (view t q n) fits = rw (after-same a (view t q n) (effect-view a t q n), view-heard t q n (reply a (view t q n))) inv
-  step (count t) fits = rw (after-same a (count t) (effect-count a t), count-heard t (reply a (count t))) inv
+  step (view t q n) fits = looks (view t q n) (λ m. refl) (effect-view a t q n)
+  step (count t) fits = looks (count t) (λ n. refl) (effect-count a t)
+  step (text t room) fits = looks (text t room) (λ n. refl) (effect-text a t room)

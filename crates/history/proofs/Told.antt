@@ -34,7 +34,7 @@ told-forget (absent silent) h = absent silent
 told-forget (present here fits silent) h = absurd (false≢true h)
 
 -- a key is known up to age K, and not above
-older-kept : (kept v a : ℕ) → a + 1 ≤ kept → older kept (some (record { value = v; age = a })) ≡ some (record { value = v; age = a + 1 })
+pub older-kept : (kept v a : ℕ) → a + 1 ≤ kept → older kept (some (record { value = v; age = a })) ≡ some (record { value = v; age = a + 1 })
 unfolding older
 older-kept kept v a young = rw (le-ltb, young)
 

@@ -9,12 +9,13 @@ use native.Mathlib.Nat.{zero-add}
 use lib.Dec.{leb}
 use lib.ListN.{length}
 use Rattle.model.specs.declared.Geometry.{Geometry}
-use Rattle.model.specs.Search.{firstFrom}
+use Rattle.model.specs.Search.{isSome, firstFrom}
 use Rattle.model.specs.Geometry.{allowed}
 use Rattle.model.specs.Keys.{pageOf}
 use Rattle.model.specs.Page.{added, taken}
 use Rattle.model.specs.Partition.{Head, headOf, totalled, flushesOf, totalOf, live}
 use Rattle.model.specs.Batch.{batchPage, entriesOf, sum, pushesOut, oldest, failedHead, dropped}
+use Rattle.model.specs.PartitionText.{liveBatch, someBatchFails}
 use Rattle.model.specs.Put.{due, appends}
 use Rattle.model.specs.Del.{removes}
 use Rattle.model.proofs.Sizes.{sizes, page-of-lt}
@@ -65,6 +66,14 @@ module _ (g : Geometry) (ok : allowed g ≡ true) (t : ℕ) (p f : List ℕ) (s 
             (sum-same (s .live) _ _ (λ i l. batch-count (s .flushes - i)
             (record { first = omega (arith, part .liveFlushed); flushed = omega arith; near = omega (arith, part .liveFlushed) })))
 
+    -- the batch of a source
+    pub source-live : (i : ℕ) → i < live g (headOf p) → Live s (liveBatch g (headOf p) i)
+    source-live i l = rw (shows .live, shows .flushes) (record {
+      first = omega arith;
+      flushed = omega (arith, part .liveFlushed, shows .live);
+      near = omega (arith, part .liveFlushed, shows .live);
+    })
+
     -- the batch that a flush pushes out
     pushes-shown : pushesOut g (headOf p) ≡ leb (g .kept) (s .live)
     unfolding pushesOut
@@ -83,6 +92,12 @@ module _ (g : Geometry) (ok : allowed g ≡ true) (t : ℕ) (p f : List ℕ) (s 
     pub dropped-shown : dropped g t p f ≡ droppedIn g s
     unfolding dropped droppedIn
     dropped-shown = rw pushes-shown (either (leb (g .kept) (s .live)) (λ full. rw full (batch-count _ (oldest-live full) ∙ oldest-entries)) (λ few. rw few))
+
+    -- every page of every live batch is as refusal 13 expects it
+    pub batches-shown : someBatchFails g t p f ≡ false
+    unfolding someBatchFails
+    batches-shown = ap isSome (first-fails (live g (headOf p)) _ (λ i l. ap isSome (first-fails (g .pages) _ (λ q lq.
+        let page = shows .batch _ (source-live i l) q lq in rw (page-expected (page .page) _ (page .flush))))))
 
     pub heads-shown : failedHead g t p f ≡ none
     unfolding failedHead

@@ -11,7 +11,7 @@ use Rattle.model.specs.Keys.{partitionOf}
 use Rattle.model.specs.Partition.{headOf, flushesOf, bufferOf, live}
 use Rattle.model.specs.Batch.{batchPage, sum, entriesOf}
 use Rattle.model.specs.Answers.{Areas, Answer, done, found, absent, shown, refused}
-use Rattle.model.specs.Calls.{Call, format, put, get, del, flush, view, count, geometryIn, partitionIn, keyPartition, reply, run}
+use Rattle.model.specs.Calls.{Call, format, put, get, del, flush, view, count, text, geometryIn, partitionIn, keyPartition, reply, run}
 use Rattle.history.specs.History.{Known, History, events, remember}
 use Rattle.history.specs.Reads.{readBy, LiveFalling, Follows}
 
@@ -24,6 +24,7 @@ Fits (del k) = k < 2 ^ 64
 Fits (flush t) = Unit {0}
 Fits (view t q n) = Unit {0}
 Fits (count t) = Unit {0}
+Fits (text t room) = Unit {0}
 
 abbrev pub AllFit : List Call → Type 0
 AllFit [] = Unit {0}

@@ -7,7 +7,7 @@ use lib.Dec.{eqb, ltb}
 use Rattle.model.specs.declared.Geometry.{Geometry}
 use Rattle.model.specs.Keys.{partitionOf}
 use Rattle.model.specs.Answers.{Areas, Answer, done, found, absent, shown, refused}
-use Rattle.model.specs.Calls.{Call, format, put, get, del, flush, view, count, reply, after}
+use Rattle.model.specs.Calls.{Call, format, put, get, del, flush, view, count, text, reply, after}
 
 -- of a key: its value and its age
 pub record Known : Type 0 where
@@ -57,7 +57,7 @@ abbrev pub counted : ℕ → History → History
 counted n h = record { geometry = h .geometry; keys = h .keys; live = h .live; puts = h .puts + 1; putPages = h .putPages + n }
 
 -- What the history is fed: the calls' arguments and, of their answers, only whether a call was refused and how many pages a put wrote.
---     accepted: formatted geometry, putting key value pages, deleting key, flushing partition, looking (get, view, count)
+--     accepted: formatted geometry, putting key value pages, deleting key, flushing partition, looking (get, view, count, text)
 --     refused: turnedDown
 pub data Event : Type 0 where
   formatted : Geometry → Event
@@ -76,6 +76,7 @@ accepted (del k) n = deleting k
 accepted (flush t) n = flushing t
 accepted (view t q m) n = looking
 accepted (count t) n = looking
+accepted (text t room) n = looking
 
 abbrev pub heard : Call → Answer → Event
 heard c (done n) = accepted c n
@@ -85,7 +86,7 @@ heard c (shown s) = accepted c 0
 heard c (refused n r) = turnedDown
 
 -- Accepted put: if it wrote pages, first the flush rule for its key's partition. Then the key has the new value and age 0.
--- Accepted del: the key is forgotten. get, view, count and every refused call: nothing.
+-- Accepted del: the key is forgotten. get, view, count, text and every refused call: nothing.
 unfoldable pub note : History → Event → History
 note h (formatted g) = blank g
 note h (putting k v n) =

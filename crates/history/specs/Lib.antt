@@ -1,3 +1,4 @@
 pub mod History
 pub mod Reads
 pub mod Claim
+pub mod Moving

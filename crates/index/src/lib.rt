@@ -1,7 +1,8 @@
-// The seven calls on memory and flash of any length and content. Each but format opens the table first; what it does then stands in the crate of its name.
+// The eight calls on memory and flash of any length and content. Each but format opens the table first; what it does then stands in the crate of its name.
 ghost use denote.Ref.{ptr};
 ghost use mathlib.Core.Path.{_≡_};
-ghost use Rattle.model.specs.Calls.{Call, bytesShown};
+ghost use lib.ListN.{length};
+ghost use Rattle.model.specs.Calls.{Call, textLeft, bytesShown};
 ghost use Rattle.answers.specs.Told.{written, answered, viewed};
 ghost use Rattle.answers.specs.Performs.{areas, Performs, Inside};
 ghost use Rattle.index.specs.Address.{addressShown};
@@ -76,6 +77,19 @@ pub fn count(memory: &[u8], flash: &[u8], partition: u32) -> Written
     }
     let g = opening::geometry_of(memory);
     count::call(memory, flash, g, partition)
+}
+
+// The partition's keys and values as session lines, in `text`; tells their length. A refused one leaves `text` as it was.
+pub fn text<'a>(memory: &'a [u8], flash: &'a [u8], partition: u32, text: &mut [u8]) -> Written
+    ensures { λ r. ⌜ Performs (Call.text partition (length (now (text .entry)))) (now (memory .entry)) (now (flash .entry)) (written r) (now (memory .entry)) (now (flash .entry)) ⌝ }
+    ensures { λ _. ⌜ now (text .exit) ≡ textLeft (areas (now (memory .entry)) (now (flash .entry))) partition (now (text .entry)) ⌝ }
+{
+    let number = opening::check(memory, flash);
+    if number != 0 {
+        return Written::Refused(Refusal { number, reads: 0 });
+    }
+    let g = opening::geometry_of(memory);
+    text::call(memory, flash, g, partition, text)
 }
 
 // Where one page stands, in memory or in flash, or the refusal with its reads.

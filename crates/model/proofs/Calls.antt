@@ -7,6 +7,7 @@ use mathlib.Core.Option.{Option, none, some}
 use native.Mathlib.Omega.{arith}
 use lib.Dec.{eqb, ltb}
 use lib.ListN.{length}
+use lib.Seq.{sets}
 use borrow.Author.Tests.{ltb-false, lt-ltb, le-ltb, eqb-true, eq-eqb, ne-eqb, not-false}
 use Rattle.model.specs.declared.Geometry.{Geometry}
 use Rattle.model.specs.Bytes.{within}
@@ -23,7 +24,8 @@ use Rattle.model.specs.Get.{getChecks, sought}
 use Rattle.model.specs.Del.{delChecks, deleted}
 use Rattle.model.specs.View.{viewChecks, pageShown, viewed}
 use Rattle.model.specs.Count.{countChecks}
-use Rattle.model.specs.Calls.{Call, format, put, get, del, flush, view, count, geometryIn, keyPartition, checks, result, reply, effect, unlessRefused, after}
+use Rattle.model.specs.PartitionText.{partitionText, textChecks}
+use Rattle.model.specs.Calls.{Call, format, put, get, del, flush, view, count, text, geometryIn, keyPartition, checks, result, reply, effect, unlessRefused, after, textLeft}
 use Rattle.model.proofs.Tests.{neither}
 use Rattle.model.proofs.Checks.{refuse-none, position-not-0, put-accepted}
 
@@ -111,6 +113,7 @@ Opens (del k) = Unit {0}
 Opens (flush t) = Unit {0}
 Opens (view t q n) = Unit {0}
 Opens (count t) = Unit {0}
+Opens (text t room) = Unit {0}
 
 pub stopped : (a : Areas) (r : Refusal) → ((later : Option Refusal) → unopened a later ≡ some r) → (c : Call) → Opens c → checks a c ≡ some r
 unfolding checks
@@ -121,6 +124,7 @@ stopped a r always (del k) o = always _
 stopped a r always (flush t) o = always _
 stopped a r always (view t q n) o = always _
 stopped a r always (count t) o = always _
+stopped a r always (text t room) o = always _
 
 -- a put of 0 is accepted on no areas
 pub put-not-0 : (a : Areas) (k : ℕ) → checks a (put k 0) ≡ none → ⊥
@@ -158,6 +162,10 @@ module _ (a : Areas) (g : Geometry) (own : geometryIn a ≡ g) where
     unfolding checks
     checks-count t = opens _ ∙ rw own
 
+    pub checks-text : (t room : ℕ) → checks a (text t room) ≡ textChecks g t room (partition g t (a .memory)) (a .flash)
+    unfolding checks
+    checks-text t room = opens _ ∙ rw own
+
   pub result-put : (k v : ℕ) (b : Bool) → due g k (partition g (partitionOf g k) (a .memory)) ≡ b → result a (put k v) ≡ done (cond b (g .pages) 0)
   unfolding result
   result-put k v b e = rw (own, e)
@@ -177,6 +185,16 @@ module _ (a : Areas) (g : Geometry) (own : geometryIn a ≡ g) where
   pub result-count : (t : ℕ) → result a (count t) ≡ done (totalOf (partition g t (a .memory)))
   unfolding result
   result-count t = rw own
+
+  pub result-text : (t room : ℕ) → result a (text t room) ≡ done (length (partitionText g t (partition g t (a .memory)) (a .flash)))
+  unfolding result
+  result-text t room = rw own
+
+  -- the text area after an accepted text, and after a refused one
+  pub text-written : (t : ℕ) (xs : List ℕ) → reply a (text t (length xs)) ≡ done (length (partitionText g t (partition g t (a .memory)) (a .flash)))
+      → textLeft a t xs ≡ sets xs 0 (partitionText g t (partition g t (a .memory)) (a .flash))
+  unfolding textLeft
+  text-written t xs e = rw (e, own)
 
   -- partition t of memory changed by f, and flash
   abbrev pub changedAt : ℕ → (List ℕ → List ℕ) → List ℕ → Areas
@@ -218,6 +236,14 @@ effect-view a t q n = refl
 pub effect-count : (a : Areas) (t : ℕ) → effect a (count t) ≡ a
 unfolding effect
 effect-count a t = refl
+
+pub effect-text : (a : Areas) (t room : ℕ) → effect a (text t room) ≡ a
+unfolding effect
+effect-text a t room = refl
+
+pub text-unwritten : (a : Areas) (t : ℕ) (xs : List ℕ) (n r : ℕ) → reply a (text t (length xs)) ≡ refused n r → textLeft a t xs ≡ xs
+unfolding textLeft
+text-unwritten a t xs n r e = rw e
 
 -- a view of the buffer, or of a batch
 pub viewed-page : (g : Geometry) (t q n : ℕ) (f : List ℕ) → viewed g t q n f ≡ pageShown (eqb n 0) g t q n f

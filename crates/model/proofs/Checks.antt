@@ -24,6 +24,7 @@ use Rattle.model.specs.Get.{getChecks}
 use Rattle.model.specs.Del.{isListed, stampFor, removes, delChecks}
 use Rattle.model.specs.View.{viewChecks}
 use Rattle.model.specs.Count.{countChecks}
+use Rattle.model.specs.PartitionText.{partitionText, someBatchFails, textChecks}
 use Rattle.model.proofs.Tests.{neither, both-true}
 use Rattle.model.proofs.Searching.{first-none}
 
@@ -42,7 +43,7 @@ unfolding firstFrom
 any-none zero i test h = refl
 any-none (suc n) i test h = rw (h i (omega arith)) (any-none n (i + 1) test (λ j l. h j (omega arith)))
 
-none-found : (o : Option ℕ) → isSome o ≡ false → o ≡ none
+pub none-found : (o : Option ℕ) → isSome o ≡ false → o ≡ none
 none-found none e = refl
 none-found (some x) e = let z : _≡_ {A = ℕ} 0 1 = cc in absurd (omega arith)
 
@@ -292,6 +293,32 @@ module _ (g : Geometry) (t : ℕ) (p : List ℕ) where
     pub count-passes : headOverfull g (headOf p) ≡ false → countChecks g t p ≡ none
     unfolding countChecks
     count-passes e = rw (lt-ltb t (partitions g) below, e)
+
+-- ---- text
+module _ (g : Geometry) (t room : ℕ) (p f : List ℕ) where
+  pub text-4 : partitions g ≤ t → textChecks g t room p f ≡ some (unread 4)
+  unfolding textChecks
+  text-4 l = rw (le-ltb t (partitions g) l)
+
+  module _ (below : t < partitions g) where
+    pub text-12 : headOverfull g (headOf p) ≡ true → textChecks g t room p f ≡ some (unread 12)
+    unfolding textChecks
+    text-12 e = rw (lt-ltb t (partitions g) below, e)
+
+    module _ (head : headOverfull g (headOf p) ≡ false) where
+      pub text-12-page : somePageOverfull g p ≡ true → textChecks g t room p f ≡ some (unread 12)
+      unfolding textChecks
+      text-12-page e = rw (lt-ltb t (partitions g) below, head, e)
+
+      module _ (pages : somePageOverfull g p ≡ false) where
+        pub text-13 : someBatchFails g t p f ≡ true → textChecks g t room p f ≡ some (unread 13)
+        unfolding textChecks
+        text-13 e = rw (lt-ltb t (partitions g) below, head, pages, e)
+
+        -- 22, or none
+        pub text-room : someBatchFails g t p f ≡ false → textChecks g t room p f ≡ refuseIf (ltb room (length (partitionText g t p f))) 22 none
+        unfolding textChecks
+        text-room e = rw (lt-ltb t (partitions g) below, head, pages, e)
 
 -- ---- view: 4, 12, 17
 module _ (g : Geometry) (t q n : ℕ) (p : List ℕ) where

@@ -18,8 +18,10 @@ use Rattle.model.specs.Get.{getChecks, readThrough, sought}
 use Rattle.model.specs.Del.{removes, delChecks, unbuffered, deleted}
 use Rattle.model.specs.View.{viewChecks, viewed}
 use Rattle.model.specs.Count.{countChecks}
-use Rattle.model.specs.Calls.{checks, result, reply, effect, after, run, replies}
+use Rattle.model.specs.Text.{figures}
+use Rattle.model.specs.PartitionText.{putText, joined, source, answersIn, answersWith, entryText, pageText, sourceText, partitionText, someBatchFails, textChecks}
+use Rattle.model.specs.Calls.{checks, result, reply, effect, after, textLeft, run, replies}
 
 unfoldable pub computing : Type 0
-unfolding word bytesOf write within firstFrom isPower allowed mostEntries filterAt bufferAt stride partitionAt memoryNeed slotPageAt flashNeed geometryOf withOpening partitionOf pageOf mixed bitOf staying stayingBytes closedUp appended replaced removed stored added without taken emptied numbered expected enlisted struck expired unexpired withBit passes withBits withEntries withPages filterFor withHead totalled live isLive slotBits batchPasses passingFrom passing sum pushesOut failedHead dropped unopened headOverfull pageOverfull keyOverfull somePageOverfull totalOut formatChecks emptiedPages emptiedPartitions formatted dueChecks flushChecks filtered delisted headAfter flushed flushIn pageChecks withBatchPage withBatch due noPosition appends putDrops putChecks unlisted buffered putIn getChecks readThrough sought removes delChecks unbuffered deleted viewChecks viewed countChecks checks result reply effect after run replies
+unfolding word bytesOf write within firstFrom isPower allowed mostEntries filterAt bufferAt stride partitionAt memoryNeed slotPageAt flashNeed geometryOf withOpening partitionOf pageOf mixed bitOf staying stayingBytes closedUp appended replaced removed stored added without taken emptied numbered expected enlisted struck expired unexpired withBit passes withBits withEntries withPages filterFor withHead totalled live isLive slotBits batchPasses passingFrom passing sum pushesOut failedHead dropped unopened headOverfull pageOverfull keyOverfull somePageOverfull totalOut formatChecks emptiedPages emptiedPartitions formatted dueChecks flushChecks filtered delisted headAfter flushed flushIn pageChecks withBatchPage withBatch due noPosition appends putDrops putChecks unlisted buffered putIn getChecks readThrough sought removes delChecks unbuffered deleted viewChecks viewed countChecks figures putText joined source answersIn answersWith entryText pageText sourceText partitionText someBatchFails textChecks checks result reply effect after textLeft run replies
 computing = Unit {0}

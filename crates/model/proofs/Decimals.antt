@@ -50,5 +50,21 @@ decimal-more n l g = figures-more 19 n g ∙ ap (λ (ds : List ℕ). ds ++ ((48 
 pub length-decimal : (n : ℕ) → length (decimal n) ≤ 20
 length-decimal n = length-figures 20 n
 
-pub length-rest : (n : ℕ) → n < 10 ^ 20 → 10 ≤ n → length (decimal (n / 10)) ≤ 19
-length-rest n l g = omega (arith, length-decimal n, simp length-append at (ap length (decimal-more n l g)))
+pub length-one : (n : ℕ) → n < 10 → length (decimal n) ≡ 1
+length-one n l = ap length (figures-one 19 n l)
+
+pub length-more : (n : ℕ) → 10 ≤ n → n < 10 ^ 20 → length (decimal n) ≡ length (decimal (n / 10)) + 1
+length-more n g l = simp length-append at (ap length (decimal-more n l g))
+
+-- and four behind those of n / 10000
+pub length-four : (n : ℕ) → 10000 ≤ n → n < 10 ^ 20 → length (decimal n) ≡ length (decimal (n / 10000)) + 4
+length-four n g l =
+    let same : n / 10 / 10 / 10 / 10 ≡ n / 10000 = omega arith in
+    omega (
+      arith,
+      length-more n (omega arith) l,
+      length-more (n / 10) (omega arith) (omega arith),
+      length-more (n / 10 / 10) (omega arith) (omega arith),
+      length-more (n / 10 / 10 / 10) (omega arith) (omega arith),
+      ap (λ (m : ℕ). length (decimal m)) same,
+    )

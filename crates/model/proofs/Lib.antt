@@ -30,5 +30,8 @@ pub mod Numbers
 pub mod RoundTrip
 pub mod Longest
 pub mod Sessions
+pub mod PutLines
+pub mod Joining
+pub mod Answering
 pub mod Computing
 pub mod Faults

@@ -54,7 +54,7 @@ store-ahead xs ys a j i h l = rw h (getD-sets-out (take j ys) xs a i (rw length-
 pub sets-all : (xs ys : List ℕ) → length ys ≡ length xs → sets xs 0 ys ≡ ys
 sets-all xs ys e = rw (sets-eq ys xs 0 (omega arith), zero-add, drop-of-length-le xs {i = length ys} (omega arith)) (append-nil ys)
 
-set-sets : (ws xs : List ℕ) (b i v : ℕ) → (b ≤ i → i < b + length ws → ⊥) → set (sets xs b ws) i v ≡ sets (set xs i v) b ws
+pub set-sets : (ws xs : List ℕ) (b i v : ℕ) → (b ≤ i → i < b + length ws → ⊥) → set (sets xs b ws) i v ≡ sets (set xs i v) b ws
 set-sets [] xs b i v h = refl
 set-sets (w ∷ ws) xs b i v h = set-sets ws (set xs b w) (suc b) i v (λ p q. h (omega arith) (omega arith)) ∙ ap (λ (l : List ℕ). sets l (suc b) ws) (set-comm xs b i w v (λ e. h (omega arith) (omega arith)))
 

@@ -1,6 +1,6 @@
 -- Sums: of which parts are the same, of which one changed, and what one part is at most.
-use Prim.Native.Nat.{ℕ, zero, suc, _+_, _*_, _≤_, _<_}
-use mathlib.Core.Path.{_≡_, refl, ap, _∙_}
+use Prim.Native.Nat.{ℕ, zero, suc, _+_, _-_, _*_, _≤_, _<_}
+use mathlib.Core.Path.{_≡_, refl, ap}
 use native.Mathlib.Omega.{arith}
 use native.Mathlib.Decide.{ℕ-discrete}
 use native.Mathlib.Nat.{suc-mul}
@@ -39,6 +39,14 @@ pub sum-first : (n : ℕ) (f : ℕ → ℕ) → sum (suc n) f ≡ f 0 + sum n (�
 unfolding sum
 sum-first zero f = refl
 sum-first (suc n) f = omega (arith, sum-first n f)
+
+-- the same parts, from the last to the first
+pub sum-reversed : (n : ℕ) (f : ℕ → ℕ) → sum n f ≡ sum n (λ i. f (n - 1 - i))
+unfolding sum
+sum-reversed zero f = refl
+sum-reversed (suc n) f =
+    let last : suc n - 1 - 0 ≡ n = omega arith in
+    omega (arith, ap f last, sum-reversed n f, sum-first n (λ i. f (suc n - 1 - i)), sum-same n (λ i. f (n - 1 - i)) (λ i. f (suc n - 1 - suc i)) (λ i l. let same : suc n - 1 - suc i ≡ n - 1 - i = omega arith in ap f same))
 
 -- of parts of which none is above m
 pub sum-most : (n m : ℕ) (f : ℕ → ℕ) → ((u : ℕ) → u < n → f u ≤ m) → sum n f ≤ n * m

@@ -31,11 +31,13 @@ pushesOut g h = leb (g .kept) (live g h)
 abbrev pub oldest : Geometry → Head → ℕ
 oldest g h = h .flushes + 1 - g .kept
 
--- the first of that batch's pages whose head is not the one expected
+-- the first of batch n's pages whose head is not the one expected
+abbrev pub failedPage : Geometry → ℕ → List ℕ → ℕ → Option ℕ
+failedPage g t f n = firstFrom (g .pages) 0 (λ q. not (expected g t n q (batchPage g t f n q)))
+
+-- of the batch that a flush pushes out
 unfoldable pub failedHead : Geometry → ℕ → List ℕ → List ℕ → Option ℕ
-failedHead g t p f =
-    let n : ℕ = oldest g (headOf p) in
-    cond (pushesOut g (headOf p)) (firstFrom (g .pages) 0 (λ q. not (expected g t n q (batchPage g t f n q)))) none
+failedHead g t p f = cond (pushesOut g (headOf p)) (failedPage g t f (oldest g (headOf p))) none
 
 -- the entries that leave with it
 unfoldable pub dropped : Geometry → ℕ → List ℕ → List ℕ → ℕ

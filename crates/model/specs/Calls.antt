@@ -1,8 +1,10 @@
--- "The six calls", and count: what each answers and leaves, on areas of any length and content, and a whole list of them.
+-- "The six calls", count and text: what each answers and leaves, on areas of any length and content, and a whole list of them.
 use Prim.Native.Nat.{ℕ}
 use mathlib.Core.Bool.{cond}
 use mathlib.Core.List.{List, [], _∷_}
 use mathlib.Core.Option.{Option, none, some}
+use lib.ListN.{length}
+use lib.Seq.{sets}
 use Rattle.model.specs.Bytes.{within}
 use Rattle.model.specs.Geometry.{stride, partitionAt}
 use Rattle.model.specs.Opening.{geometryOf}
@@ -17,9 +19,10 @@ use Rattle.model.specs.Get.{getChecks, sought}
 use Rattle.model.specs.Del.{delChecks, deleted}
 use Rattle.model.specs.View.{viewChecks, viewed}
 use Rattle.model.specs.Count.{countChecks}
+use Rattle.model.specs.PartitionText.{partitionText, textChecks}
 use Rattle.model.specs.declared.Geometry.{Geometry}
 
---     format geometry, put key value, get key, del key, flush partition, view partition page flush-number, count partition
+--     format geometry, put key value, get key, del key, flush partition, view partition page flush-number, count partition, text partition room
 pub data Call : Type 0 where
   format : Geometry → Call
   put : ℕ → ℕ → Call
@@ -28,6 +31,7 @@ pub data Call : Type 0 where
   flush : ℕ → Call
   view : ℕ → ℕ → ℕ → Call
   count : ℕ → Call
+  text : ℕ → ℕ → Call
 
 -- the geometry that memory opens with, and a partition's bytes
 abbrev pub geometryIn : Areas → Geometry
@@ -39,6 +43,10 @@ partitionIn a t = partition (geometryIn a) t (a .memory)
 abbrev pub keyPartition : Areas → ℕ → List ℕ
 keyPartition a k = partitionIn a (partitionOf (geometryIn a) k)
 
+-- the text of partition t
+abbrev pub textIn : Areas → ℕ → List ℕ
+textIn a t = partitionText (geometryIn a) t (partitionIn a t) (a .flash)
+
 -- the refusals that are decided before anything is answered or written, in their order
 unfoldable pub checks : Areas → Call → Option Refusal
 checks a (format g) = formatChecks g a
@@ -48,6 +56,7 @@ checks a (del k) = unopened a (delChecks (geometryIn a) k (keyPartition a k))
 checks a (flush t) = unopened a (flushChecks (geometryIn a) t (partitionIn a t) (a .flash))
 checks a (view t q n) = unopened a (viewChecks (geometryIn a) t q n (partitionIn a t))
 checks a (count t) = unopened a (countChecks (geometryIn a) t (partitionIn a t))
+checks a (text t room) = unopened a (textChecks (geometryIn a) t room (partitionIn a t) (a .flash))
 
 -- what a call answers that none of them stops; the 13 of get and view may still come
 unfoldable pub result : Areas → Call → Answer
@@ -58,6 +67,7 @@ result a (del k) = done 0
 result a (flush t) = done (geometryIn a .pages)
 result a (view t q n) = viewed (geometryIn a) t q n (a .flash)
 result a (count t) = done (totalOf (partitionIn a t))
+result a (text t room) = done (length (textIn a t))
 
 abbrev pub replyIf : Option Refusal → Answer → Answer
 replyIf (some r) x = refused (r .number) (r .reads)
@@ -85,9 +95,10 @@ effect a (del k) = changed a (partitionOf (geometryIn a) k) (deleted (geometryIn
 effect a (flush t) = changed a t (flushIn (geometryIn a) t (a .flash)) (flashAfter a t)
 effect a (view t q n) = a
 effect a (count t) = a
+effect a (text t room) = a
 
 -- a refused call changes no byte
-abbrev pub unlessRefused : Answer → Areas → Areas → Areas
+abbrev pub unlessRefused : {A : Type 0} → Answer → A → A → A
 unlessRefused (refused n r) before later = before
 unlessRefused (done n) before later = later
 unlessRefused (found v c p) before later = later
@@ -108,6 +119,10 @@ partShown (absent c) = inMemory 0 0
 
 unfoldable pub bytesShown : Areas → ℕ → ℕ → ℕ → List ℕ
 bytesShown a t q n = bytesIn a (partShown (reply a (view t q n)))
+
+-- what a text leaves in the text area that it was lent: surplus bytes stay, and a refused one changes no byte
+unfoldable pub textLeft : Areas → ℕ → List ℕ → List ℕ
+textLeft a t xs = unlessRefused (reply a (text t (length xs))) xs (sets xs 0 (textIn a t))
 
 -- Each call gets both areas as the last one left them.
 unfoldable pub run : Areas → List Call → Areas

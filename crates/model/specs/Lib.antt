@@ -18,6 +18,7 @@ pub mod Get
 pub mod Del
 pub mod View
 pub mod Count
-pub mod Calls
 pub mod Text
+pub mod PartitionText
+pub mod Calls
 pub mod Session

@@ -1,9 +1,10 @@
-// The seven calls for C: numbers, and areas as pointer and length. include/mortxizal.h declares them.
+// The eight calls for C: numbers, and areas as pointer and length. include/mortxizal.h declares them.
 ghost use Rattle.model.specs.Geometry.{geometry};
 ghost use Rattle.model.specs.Calls.{Call};
-ghost use Rattle.mortxizal.specs.Exports.{Exports};
+ghost use Rattle.mortxizal.specs.Exports.{Exports, ExportsText};
 use exported::MxAnswer;
 use exported::of_answer;
+use exported::of_text;
 use exported::of_viewed;
 use exported::of_written;
 use model::Geometry;
@@ -80,4 +81,16 @@ pub extern "C" fn mx_count(memory: &[u8], flash: &[u8], partition: u32) -> MxAns
     ensures { λ r. ⌜ Exports (Call.count partition) (now (memory .entry)) (now (flash .entry)) r (now (memory .entry)) (now (flash .entry)) ⌝ }
 {
     of_written(index::count(memory, flash, partition))
+}
+
+#[no_mangle]
+pub extern "C" fn mx_text<'a>(
+    memory: &'a [u8],
+    flash: &'a [u8],
+    partition: u32,
+    text: &mut [u8],
+) -> MxAnswer
+    ensures { λ r. ⌜ ExportsText partition (now (memory .entry)) (now (flash .entry)) (now (text .entry)) r (now (text .exit)) ⌝ }
+{
+    of_text(index::text(memory, flash, partition, text))
 }

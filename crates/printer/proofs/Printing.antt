@@ -1,13 +1,15 @@
 -- Bytes written one behind another, a number's figures among them.
-use mathlib.Core.Path.{refl, _∙_}
-use mathlib.Core.List.{List, [], _∷_, _++_, append-assoc}
-use Prim.Native.Nat.{ℕ, _+_, _/_, _%_, _^_, _≤_, _<_}
+use mathlib.Core.Path.{_≡_, refl, sym, _∙_, ap}
+use mathlib.Core.List.{List, [], _∷_, _++_, append-assoc, append-nil}
+use Prim.Native.Nat.{ℕ, suc, _+_, _-_, _/_, _%_, _^_, _≤_, _<_}
 use native.Mathlib.Omega.{arith}
-use lib.ListN.{set, length-append}
-use Rattle.model.proofs.Parts.{sets-append}
+use lib.ListN.{length, set, length-append}
+use lib.Seq.{sets}
+use Rattle.model.proofs.Parts.{sets-append, set-sets}
 use Rattle.model.specs.Text.{decimal}
+use Rattle.model.specs.PartitionText.{putText}
 use Rattle.printer.specs.Puts.{Puts}
-use Rattle.model.proofs.Decimals.{figures-one, decimal-more}
+use Rattle.model.proofs.Decimals.{figures-one, decimal-more, length-decimal, length-one, length-more}
 
 pub puts-append : {xs ys : List ℕ} {at p r : ℕ} {a b c : List ℕ} → Puts xs at a p b → Puts ys p b r c → Puts (xs ++ ys) at a r c
 puts-append {xs} {ys} {at} {p} {r} {a} {b} {c} f g =
@@ -19,12 +21,45 @@ puts-append {xs} {ys} {at} {p} {r} {a} {b} {c} f g =
 pub puts-three : {ws : List ℕ} (xs ys zs : List ℕ) {at p r : ℕ} {a b c : List ℕ} → Puts ws at a p b → Puts (xs ++ ys ++ zs) p b r c → Puts (ws ++ xs ++ ys ++ zs) at a r c
 puts-three xs ys zs f g = simp append-assoc (puts-append f (simp append-assoc at g))
 
--- a number's last figure, behind those of n / 10
-pub puts-byte : (x at : ℕ) (a : List ℕ) → Puts (x ∷ []) at a (at + 1) (set a at x)
-puts-byte x at a = record { ends = refl; holds = refl }
+-- a number's figures, written from the last to the first: those behind the figures of `rest` stand from i on
+pub record Figured (n at rest i : ℕ) (a b : List ℕ) : Type 0 where
+  pub figures : List ℕ
+  pub whole : decimal n ≡ decimal rest ++ figures
+  pub place : i ≡ at + length (decimal rest)
+  pub holds : b ≡ sets a i figures
 
-pub puts-one : (n at : ℕ) (a : List ℕ) → n < 10 → Puts (decimal n) at a (at + 1) (set a at (48 + n))
-puts-one n at a l = rw (figures-one 19 n l) (puts-byte (48 + n) at a)
+pub figured-none : (n at : ℕ) (a : List ℕ) → Figured n at n (at + length (decimal n)) a a
+figured-none n at a = record { figures = []; whole = sym (append-nil (decimal n)); place = refl; holds = refl }
 
-pub puts-more : {n at p : ℕ} {a b : List ℕ} → n < 10 ^ 20 → 10 ≤ n → Puts (decimal (n / 10)) at a p b → Puts (decimal n) at a (p + 1) (set b p (48 + n % 10))
-puts-more {n} {p = p} {b = b} l g f = rw (decimal-more n l g) (puts-append f (puts-byte (48 + n % 10) p b))
+module _ {n at rest i : ℕ} {a b : List ℕ} (f : Figured n at rest i a b) where
+  pub figured-within : i ≤ at + length (decimal n)
+  figured-within = omega (arith, f .place, ap length (f .whole), length-append (decimal rest) (f .figures))
+
+  -- one figure more, and the number is written
+  pub figured-more : 10 ≤ rest → rest < 10 ^ 20 → Figured n at (rest / 10) (i - 1) a (set b (i - 1) (48 + rest % 10))
+  figured-more g l =
+      let more = length-more rest g l in
+      let next : i ≡ suc (i - 1) = omega (arith, f .place) in
+      record {
+        figures = (48 + rest % 10) ∷ f .figures;
+        whole = f .whole ∙ rw (decimal-more rest l g, append-assoc);
+        place = omega (arith, f .place);
+        holds = rw (f .holds, set-sets (f .figures) a i (i - 1) (48 + rest % 10) (omega (arith, f .place))) (ap (λ (j : ℕ). sets (set a (i - 1) (48 + rest % 10)) j (f .figures)) next);
+      }
+
+  pub figured-all : rest < 10 → set b at (48 + rest) ≡ sets a at (decimal n)
+  figured-all l =
+      let next : i ≡ suc at = omega (arith, f .place, length-one rest l) in
+      rw (f .whole, f .holds, figures-one 19 rest l, set-sets (f .figures) a i at (48 + rest) (omega arith)) (ap (λ (j : ℕ). sets (set a at (48 + rest)) j (f .figures)) next)
+
+-- eight bytes stand around the figures of both numbers
+pub length-put-text : (k v : ℕ) → length (putText k v) ≡ 8 + length (decimal k) + length (decimal v)
+unfolding putText
+length-put-text k v = simp length-append (omega arith)
+
+-- 64 bytes are enough for an answer of two numbers, since a number has at most 20 figures
+pub room-two : (at head room a b : ℕ) → at + 64 ≤ room → head ≤ 21 → at + head + length (decimal a) + length (decimal b) + 3 ≤ room
+room-two at head room a b l h = omega (arith, length-decimal a, length-decimal b)
+
+pub room-one : (at head room n : ℕ) → at + 64 ≤ room → head ≤ 42 → at + head + length (decimal n) + 2 ≤ room
+room-one at head room n l h = omega (arith, length-decimal n)

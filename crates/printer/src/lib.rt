@@ -1,8 +1,10 @@
-// Answers as fixed byte strings and figures, written into a slice from `at` on; each tells the place behind.
+// Answers and lines as fixed byte strings and figures, written into a slice from `at` on; each tells the place behind.
 ghost use mathlib.Core.List.{_++_};
 ghost use Prim.Native.Nat.{_+_, _≤_};
 ghost use lib.ListN.{length};
 ghost use Rattle.model.specs.Text.{text, decimal};
+ghost use mathlib.Core.Path.{_≡_};
+ghost use Rattle.model.specs.PartitionText.{putText};
 ghost use Rattle.model.specs.Session.{answerText};
 ghost use Rattle.answers.specs.Told.{written, answered, refusing};
 ghost use Rattle.printer.specs.Puts.{Puts};
@@ -22,23 +24,43 @@ fn write_text(out: &mut [u8], at: usize, bytes: &[u8]) -> usize
     at + i
 }
 
-// All figures but the last are those of n / 10.
+// How many figures n has: four more than n / 10000.
+fn decimal_length(n: u64) -> usize
+    ensures { λ r. ⌜ r ≡ length (decimal n) ⌝ }
+{
+    let mut length: usize = 1;
+    let mut rest = n;
+    while 10000 <= rest {
+        rest = rest / 10000;
+        length += 4;
+    }
+    while 10 <= rest {
+        rest = rest / 10;
+        length += 1;
+    }
+    length
+}
+
+// The last figure first: all others are those of n / 10.
 fn write_decimal(out: &mut [u8], at: usize, n: u64) -> usize
-    requires { ⌜ at + 20 ≤ length (now out) ⌝ }
+    requires { ⌜ at + length (decimal n) ≤ length (now out) ⌝ }
     ensures { λ r. ⌜ Puts (decimal n) at (now (out .entry)) r (now (out .exit)) ⌝ }
 {
-    if n < 10 {
-        out[at] = b'0' + n as u8;
-        return at + 1;
+    let end = at + decimal_length(n);
+    let mut i = end;
+    let mut rest = n;
+    while 10 <= rest {
+        i -= 1;
+        out[i] = b'0' + (rest % 10) as u8;
+        rest = rest / 10;
     }
-    let next = write_decimal(out, at, n / 10);
-    out[next] = b'0' + (n % 10) as u8;
-    next + 1
+    out[at] = b'0' + rest as u8;
+    end
 }
 
 // A text, a number, and the end of the answer.
 fn write_one(out: &mut [u8], at: usize, head: &[u8], n: u64) -> usize
-    requires { ⌜ at + length (now head) + 22 ≤ length (now out) ⌝ }
+    requires { ⌜ at + length (now head) + length (decimal n) + 2 ≤ length (now out) ⌝ }
     ensures { λ r. ⌜ Puts (now (head .entry) ++ decimal n ++ text ")\n") at (now (out .entry)) r (now (out .exit)) ⌝ }
 {
     let next = write_text(out, at, head);
@@ -47,7 +69,7 @@ fn write_one(out: &mut [u8], at: usize, head: &[u8], n: u64) -> usize
 }
 
 fn write_two(out: &mut [u8], at: usize, head: &[u8], a: u64, b: u64) -> usize
-    requires { ⌜ at + length (now head) + 43 ≤ length (now out) ⌝ }
+    requires { ⌜ at + length (now head) + length (decimal a) + length (decimal b) + 3 ≤ length (now out) ⌝ }
     ensures { λ r. ⌜ Puts (now (head .entry) ++ decimal a ++ text " " ++ decimal b ++ text ")\n") at (now (out .entry)) r (now (out .exit)) ⌝ }
 {
     let next = write_text(out, at, head);
@@ -97,4 +119,19 @@ pub fn write_bad(out: &mut [u8], at: usize) -> usize
     ensures { λ r. ⌜ Puts (text "(bad)\n") at (now (out .entry)) r (now (out .exit)) ⌝ }
 {
     write_text(out, at, b"(bad)\n")
+}
+
+// The bytes of a line of `write_put`.
+pub fn put_length(key: u64, value: u64) -> usize
+    ensures { λ r. ⌜ r ≡ length (putText key value) ⌝ }
+{
+    8 + decimal_length(key) + decimal_length(value)
+}
+
+// The line that puts the key, with its byte 10.
+pub fn write_put(out: &mut [u8], at: usize, key: u64, value: u64) -> usize
+    requires { ⌜ at + length (putText key value) ≤ length (now out) ⌝ }
+    ensures { λ r. ⌜ Puts (putText key value) at (now (out .entry)) r (now (out .exit)) ⌝ }
+{
+    write_two(out, at, b"(put ", key, value)
 }

@@ -1,11 +1,11 @@
 //! Instructions per operation under callgrind: the work is run with half of
 //! its operations and with all of them, and the difference is taken, so that
-//! whatever comes before and after falls out.
+//! whatever comes before and after falls out. A text counts by its lines.
 
 use crate::fill::Op;
 use crate::measure::{self, Which};
 use crate::tables::Tables;
-use crate::work::{Kind, Work};
+use crate::work::{self, Kind, Work};
 use reference::Geometry;
 use std::fs;
 use std::io;
@@ -18,12 +18,13 @@ pub struct Count {
     pub rust: f64,
 }
 
-const KINDS: [(&str, Kind); 5] = [
+const KINDS: [(&str, Kind); 6] = [
     ("put", Kind::Put),
     ("get", Kind::Get),
     ("get-put", Kind::GetThenPut),
     ("del", Kind::Del),
     ("flush", Kind::Flush),
+    ("text", Kind::Text),
 ];
 
 pub fn is_there() -> bool {
@@ -103,15 +104,19 @@ fn collected(child: Child) -> Option<f64> {
     line.split_whitespace().last()?.parse().ok()
 }
 
-/// Per operation, over the second half of the work.
-pub fn row(folder: &Path, tables: &Tables, work: &Work) -> Option<Count> {
+/// Per operation, and of a text per line, over the second half of the work.
+pub fn row(folder: &Path, tables: &mut Tables, work: &Work) -> Option<Count> {
     save(folder, tables, work).ok()?;
     let (half, all) = (work.ops.len() / 2, work.ops.len());
+    let divisor = match work.kind {
+        Kind::Text => work::text_sizes(tables, &work.ops[half..]).1,
+        _ => all - half,
+    };
     let of = |engine: &str| -> Option<f64> {
         let first = start(folder, work.kind, engine, half).ok()?;
         let second = start(folder, work.kind, engine, all).ok()?;
         let (first, second) = (collected(first), collected(second));
-        Some((second? - first?) / (all - half) as f64)
+        Some((second? - first?) / divisor as f64)
     };
     Some(Count {
         engine: of("engine")?,

@@ -57,4 +57,10 @@ impl Index for Engine {
     fn flush(memory: &mut [u8], flash: &mut [u8], partition: u32) -> Done {
         done(raw::flush(memory, flash, partition))
     }
+
+    #[inline]
+    fn text(memory: &[u8], flash: &[u8], partition: u32, text: &mut [u8]) -> Done {
+        let answer = raw::text(memory, flash, partition, text);
+        done(answer).map(|_| answer.value as u32)
+    }
 }

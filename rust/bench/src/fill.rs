@@ -4,7 +4,7 @@ use crate::index::{Index, RustIndex};
 use crate::random::Random;
 use crate::tables::Tables;
 
-/// One operation's arguments. A flush has its partition as the key.
+/// One operation's arguments. A flush and a text have their partition as the key.
 #[derive(Clone, Copy, PartialEq, Eq, Debug)]
 pub struct Op {
     pub table: u64,

@@ -14,7 +14,7 @@ pub struct Got {
     pub batch: u32,
 }
 
-/// Pages written, or the refusal's number.
+/// Pages written, of a text its bytes, or the refusal's number.
 pub type Done = Result<u32, u32>;
 
 pub trait Index {
@@ -23,6 +23,7 @@ pub trait Index {
     fn get(memory: &[u8], flash: &[u8], key: u64) -> Result<Got, u32>;
     fn del(memory: &mut [u8], flash: &[u8], key: u64) -> Done;
     fn flush(memory: &mut [u8], flash: &mut [u8], partition: u32) -> Done;
+    fn text(memory: &[u8], flash: &[u8], partition: u32, text: &mut [u8]) -> Done;
 }
 
 /// The independent index of `rust/reference`.
@@ -46,6 +47,11 @@ fn del(memory: &mut [u8], flash: &[u8], key: u64) -> Result<(), Refusal> {
 #[inline(never)]
 fn flush(memory: &mut [u8], flash: &mut [u8], partition: u32) -> Result<u32, Refusal> {
     reference::flush(memory, flash, partition)
+}
+
+#[inline(never)]
+fn text(memory: &[u8], flash: &[u8], partition: u32, text: &mut [u8]) -> Result<usize, Refusal> {
+    reference::text(memory, flash, partition, text)
 }
 
 impl Index for RustIndex {
@@ -98,5 +104,13 @@ impl Index for RustIndex {
     #[inline]
     fn flush(memory: &mut [u8], flash: &mut [u8], partition: u32) -> Done {
         flush(memory, flash, partition).map_err(Refusal::number)
+    }
+
+    #[inline]
+    fn text(memory: &[u8], flash: &[u8], partition: u32, area: &mut [u8]) -> Done {
+        match text(memory, flash, partition, area) {
+            Ok(length) => Ok(length as u32),
+            Err(refusal) => Err(refusal.number()),
+        }
     }
 }

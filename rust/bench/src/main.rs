@@ -30,12 +30,13 @@ use tables::{Start, Tables};
 use work::{Kind, State, Work};
 
 const USAGE: &str = "bench --docs FOLDER [--folder FOLDER] [--kit TEXT] [--only G|middle|largest]
-bench --count put|get|get-put|del|flush engine|rust N FOLDER";
+bench --count put|get|get-put|del|flush|text engine|rust N FOLDER";
 
 /// One row of a geometry's table.
 pub struct Row {
     pub name: &'static str,
-    pub kind: Kind,
+    /// Mean bytes of an operation, where bytes are counted and not operations.
+    pub bytes: Option<f64>,
     pub timing: measure::Timing,
     pub floor: Option<f64>,
     pub reads: Option<reads::Reads>,
@@ -190,11 +191,24 @@ fn row(
     filled.restore(tables);
     Row {
         name: work.name,
-        kind: work.kind,
+        bytes: bytes_each(tables, work),
         timing,
         floor,
         reads,
         count,
+    }
+}
+
+/// A flush alone counts as the bytes of its batch, a text as its own.
+fn bytes_each(tables: &mut Tables, work: &Work) -> Option<f64> {
+    let layout = tables.geometry.layout().expect("an allowed geometry");
+    match work.kind {
+        Kind::Flush => Some(layout.batch_bytes() as f64),
+        Kind::Text => {
+            let (bytes, _) = work::text_sizes(tables, &work.ops);
+            Some(bytes as f64 / work.ops.len() as f64)
+        }
+        _ => None,
     }
 }
 
@@ -220,6 +234,9 @@ fn print_row(row: &Row) {
         "  {:36} engine {:>12.0}/s  Rust index {:>12.0}/s  ratio {:.2}",
         row.name, timing.engine, timing.rust, timing.ratio
     );
+    if let Some(bytes) = row.bytes {
+        line += &format!("  bytes each {bytes:.0}");
+    }
     if let Some(count) = row.count {
         line += &format!("  instructions {:.0} : {:.0}", count.engine, count.rust);
     }

@@ -62,30 +62,40 @@ pub fn row(tables: &mut Tables, start: &Start, work: &Work, passes: usize) -> Ti
     }
 }
 
-/// Both do the whole work once: answers and bytes must be the same.
+/// Both do the whole work once: answers and bytes must be the same. A text is
+/// looked at before the next one is written over it.
 fn compare(tables: &mut Tables, start: &Start, work: &Work) {
-    restore(tables, start, work);
-    let told = run(Which::Rust, work.kind, tables, &work.ops);
-    let left = sum(tables, work);
-    restore(tables, start, work);
-    let same = run(Which::Engine, work.kind, tables, &work.ops);
-    assert_eq!(told, same, "{}: the answers differ", work.name);
-    assert_eq!(left, sum(tables, work), "{}: the bytes differ", work.name);
+    let together = match work.kind {
+        Kind::Text => 1,
+        _ => work.ops.len(),
+    };
+    let mut once = |which| -> (Vec<u64>, Vec<u64>) {
+        restore(tables, start, work);
+        tables.text.fill(0);
+        let parts = work.ops.chunks(together);
+        let told = parts.map(|ops| (run(which, work.kind, tables, ops), sum(tables, work)));
+        told.unzip()
+    };
+    let (told, left) = once(Which::Rust);
+    let (same, bytes) = once(Which::Engine);
+    assert!(told == same, "{}: the answers differ", work.name);
+    assert!(left == bytes, "{}: the bytes differ", work.name);
 }
 
 fn restore(tables: &mut Tables, start: &Start, work: &Work) {
-    if work.kind != Kind::Get {
+    if !work.kind.only_reads() {
         start.restore(tables);
     }
 }
 
-/// A sum over all bytes, where the work changes some.
+/// A sum over all bytes of the areas that the work changes.
 fn sum(tables: &Tables, work: &Work) -> u64 {
-    if work.kind == Kind::Get {
-        return 0;
-    }
-    let words = tables.memory.chunks_exact(8);
-    let words = words.chain(tables.flash.chunks_exact(8));
+    let areas: [&[u8]; 2] = match work.kind {
+        Kind::Get => return 0,
+        Kind::Text => [&tables.text, &[]],
+        _ => [&tables.memory, &tables.flash],
+    };
+    let words = areas.iter().flat_map(|area| area.chunks_exact(8));
     words.fold(0, |sum: u64, word| {
         let word = u64::from_le_bytes(word.try_into().expect("8 bytes"));
         (sum ^ word)

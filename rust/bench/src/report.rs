@@ -4,8 +4,7 @@ use crate::batches::{Batches, FLUSHES};
 use crate::machine;
 use crate::rivals::ALL;
 use crate::shape;
-use crate::work::Kind;
-use crate::{Part, Row};
+use crate::Part;
 use std::fmt::Write;
 
 /// What is said by hand: where the engine was below, what was done, what is left.
@@ -48,9 +47,9 @@ Made by `./bench`; this page is written anew by every run.
 ## How it is measured
 
 - **Engine**: the proved engine, through its C interface (`crates/mortxizal`), as `rt staticlib` builds it. **Rust index**: `rust/reference`, built for release with link-time optimization. Neither is built for this processor in particular. Each operation is one call that is not inlined, on areas lent as slices; every call opens the table anew.
-- Both work by turns on the same areas: a row's work is cut into 64 pieces or so, which the two do alternately, and from pass to pass they change places. So each piece is done by both, from the same bytes. Before each pass of a row that changes them the areas are put back as they were (not the largest table's flash: its passes only write slots that are not live). A piece's time is the median over its passes, a row's time the sum over its pieces. Before that, both do the whole row once, and all answers and all bytes of both areas are compared.
+- Both work by turns on the same areas: a row's work is cut into 64 pieces or so, which the two do alternately, and from pass to pass they change places. So each piece is done by both, from the same bytes. Before each pass of a row that changes them the areas are put back as they were (not the largest table's flash: its passes only write slots that are not live). A piece's time is the median over its passes, a row's time the sum over its pieces. Before that, both do the whole row once, and all answers and all bytes of both areas, and of the text area, are compared.
 - **Areas**: both are cleared first and each of their pages is touched, then the table is formatted and filled with fresh random keys; so no pass pays for a page that the kernel hands out. Keys are random 64-bit numbers, the same in every run. Caches are not cleared.
-- **Instructions** per operation are counted by valgrind (callgrind), as the difference between all operations of a row and the first half of them. They do not depend on the load of the machine. memcpy and memset count as the C library's code that valgrind's processor picks.
+- **Instructions** per operation, and of a text per line, are counted by valgrind (callgrind), as the difference between all operations of a row and the first half of them. They do not depend on the load of the machine. memcpy and memset count as the C library's code that valgrind's processor picks.
 - **Floors**: for lookups a `HashMap` of the standard library with all entries of the table; for a flush, memcpy from the buffers to a slot.
 
 ",
@@ -81,7 +80,7 @@ fn geometry(page: &mut String, part: &Part) {
 
 {}. {tables} {} bytes of memory and {} of flash, {} flushes of each partition done, {} entries in all. {} passes of each index.
 
-Millions of operations a second; a flush alone in millions of bytes a second.
+Millions of operations a second; a flush alone and a text in millions of bytes a second. The instructions of a text are those of one line.
 
 | work | engine | Rust index | ratio | floor | instructions: engine | Rust index | ratio |
 |---|--:|--:|--:|--:|--:|--:|--:|
@@ -94,7 +93,7 @@ Millions of operations a second; a flush alone in millions of bytes a second.
         shape.passes,
     );
     for row in &part.rows {
-        let bytes = bytes_each(part, row);
+        let bytes = row.bytes.unwrap_or(1.0);
         let floor = row.floor.map_or(String::new(), millions);
         let (engine, rust, ratio) = match row.count {
             Some(count) => (
@@ -122,15 +121,6 @@ Millions of operations a second; a flush alone in millions of bytes a second.
         let _ = writeln!(page, "\nInstructions were not counted: {reason}.");
     }
     page.push('\n');
-}
-
-/// What an operation is counted as: a flush alone as the bytes of its batch.
-fn bytes_each(part: &Part, row: &Row) -> f64 {
-    let layout = part.shape.geometry.layout().expect("an allowed geometry");
-    match row.kind {
-        Kind::Flush => layout.batch_bytes() as f64,
-        _ => 1.0,
-    }
 }
 
 fn reads(page: &mut String, parts: &[Part]) {
@@ -212,7 +202,8 @@ fn rivals(page: &mut String, part: &Part) {
     page.push_str(&"--:|".repeat(part.rivals.len()));
     page.push('\n');
     for (place, row) in part.rows.iter().enumerate() {
-        if row.kind == Kind::Flush {
+        // Of the other stores none has a flush like it, nor a text.
+        if row.bytes.is_some() {
             continue;
         }
         let _ = write!(page, "| {} | {} |", row.name, millions(row.timing.engine));

@@ -10,30 +10,32 @@ pub struct Tables {
     pub count: usize,
     pub memory: Vec<u8>,
     pub flash: Vec<u8>,
+    /// A text area that the lines of any partition fit.
+    pub text: Vec<u8>,
     memory_size: usize,
     flash_size: usize,
 }
+
+/// The longest line of a text.
+const LINE_BYTES: usize = b"(put 18446744073709551615 18446744073709551615)\n".len();
 
 impl Tables {
     /// Areas of zeros, each page of them touched.
     pub fn new(geometry: Geometry, count: usize) -> Tables {
         let layout = geometry.layout().expect("an allowed geometry");
         let (memory_size, flash_size) = (layout.memory_need(), layout.flash_need());
-        let mut tables = Tables {
-            geometry,
-            count,
-            memory: vec![0; count * memory_size],
-            flash: vec![0; count * flash_size],
-            memory_size,
-            flash_size,
-        };
-        touch(&mut tables.memory);
-        touch(&mut tables.flash);
-        tables
+        let mut memory = vec![0; count * memory_size];
+        let mut flash = vec![0; count * flash_size];
+        touch(&mut memory);
+        touch(&mut flash);
+        Tables::with(geometry, count, memory, flash)
     }
 
     /// Tables with these bytes.
     pub fn with(geometry: Geometry, count: usize, memory: Vec<u8>, flash: Vec<u8>) -> Tables {
+        let layout = geometry.layout().expect("an allowed geometry");
+        let mut text = vec![0; LINE_BYTES * layout.most_entries() as usize];
+        touch(&mut text);
         Tables {
             geometry,
             count,
@@ -41,6 +43,7 @@ impl Tables {
             flash_size: flash.len() / count,
             memory,
             flash,
+            text,
         }
     }
 
@@ -57,6 +60,16 @@ impl Tables {
         (
             &mut self.memory[table * self.memory_size..][..self.memory_size],
             &mut self.flash[table * self.flash_size..][..self.flash_size],
+        )
+    }
+
+    /// The areas of a table that is only read, and the text area.
+    #[inline]
+    pub fn areas_and_text(&mut self, table: usize) -> (&[u8], &[u8], &mut [u8]) {
+        (
+            &self.memory[table * self.memory_size..][..self.memory_size],
+            &self.flash[table * self.flash_size..][..self.flash_size],
+            &mut self.text,
         )
     }
 

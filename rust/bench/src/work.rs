@@ -14,6 +14,14 @@ pub enum Kind {
     GetThenPut,
     Del,
     Flush,
+    Text,
+}
+
+impl Kind {
+    /// Whether its operations leave both areas as they are.
+    pub fn only_reads(self) -> bool {
+        matches!(self, Kind::Get | Kind::Text)
+    }
 }
 
 /// The state of the tables that a row begins with.
@@ -41,13 +49,17 @@ pub const PUT: &str = "put, fresh keys with their flushes";
 pub const MIXED: &str = "get then put, 40 % found";
 pub const DEL: &str = "del";
 pub const FLUSH: &str = "flush alone";
+pub const TEXT: &str = "text of a partition";
+
+/// Partitions of a large table that are written as text: each takes long.
+const TEXTS: usize = 16;
 
 /// All rows. The tables are filled, and are given back as they were.
 pub fn all(tables: &mut Tables, shape: &Shape, random: &mut Random) -> Vec<Work> {
-    let row = |name, kind, ops| Work {
+    let row = |name, kind, state, ops| Work {
         name,
         kind,
-        state: State::Filled,
+        state,
         ops,
     };
     let lookups = |tables: &Tables, stand, random: &mut Random| -> Vec<Op> {
@@ -62,26 +74,19 @@ pub fn all(tables: &mut Tables, shape: &Shape, random: &mut Random) -> Vec<Work>
     let dels = deletions(tables, shape.dels, random);
     let deleted = repeated(&dels, shape.gets, random);
     let mixed = mixed(tables, shape, random);
+    let flushes = partitions(tables).collect();
+    let texts = partitions(tables).take(tables.count.max(TEXTS)).collect();
     vec![
-        row(PUT, Kind::Put, puts),
-        row(IN_BUFFER, Kind::Get, buffer),
-        row(IN_YOUNGEST, Kind::Get, youngest),
-        row(IN_OLDEST, Kind::Get, oldest),
-        row(ABSENT, Kind::Get, absent),
-        row(MIXED, Kind::GetThenPut, mixed),
-        row(DEL, Kind::Del, dels),
-        Work {
-            name: DELETED,
-            kind: Kind::Get,
-            state: State::Deleted,
-            ops: deleted,
-        },
-        Work {
-            name: FLUSH,
-            kind: Kind::Flush,
-            state: State::Full,
-            ops: flushes(tables),
-        },
+        row(PUT, Kind::Put, State::Filled, puts),
+        row(IN_BUFFER, Kind::Get, State::Filled, buffer),
+        row(IN_YOUNGEST, Kind::Get, State::Filled, youngest),
+        row(IN_OLDEST, Kind::Get, State::Filled, oldest),
+        row(ABSENT, Kind::Get, State::Filled, absent),
+        row(MIXED, Kind::GetThenPut, State::Filled, mixed),
+        row(DEL, Kind::Del, State::Filled, dels),
+        row(DELETED, Kind::Get, State::Deleted, deleted),
+        row(FLUSH, Kind::Flush, State::Full, flushes),
+        row(TEXT, Kind::Text, State::Filled, texts),
     ]
 }
 
@@ -142,15 +147,27 @@ fn mixed(tables: &mut Tables, shape: &Shape, random: &mut Random) -> Vec<Op> {
     ops
 }
 
-fn flushes(tables: &Tables) -> Vec<Op> {
-    let each = |table| {
-        (0..1u64 << tables.geometry.parts).map(move |partition| Op {
-            table: table as u64,
-            key: partition,
-            value: 0,
-        })
-    };
-    (0..tables.count).flat_map(each).collect()
+/// Each partition of each table.
+fn partitions(tables: &Tables) -> impl Iterator<Item = Op> {
+    let (count, partitions) = (tables.count as u64, 1u64 << tables.geometry.parts);
+    (0..count * partitions).map(move |place| Op {
+        table: place / partitions,
+        key: place % partitions,
+        value: 0,
+    })
+}
+
+/// The bytes and the lines of the texts that the operations write.
+pub fn text_sizes(tables: &mut Tables, ops: &[Op]) -> (usize, usize) {
+    let (mut bytes, mut lines) = (0, 0);
+    for op in ops {
+        let (memory, flash, text) = tables.areas_and_text(op.table as usize);
+        let length = RustIndex::text(memory, flash, op.key as u32, text);
+        let length = length.expect("an accepted text") as usize;
+        bytes += length;
+        lines += text[..length].iter().filter(|&&byte| byte == b'\n').count();
+    }
+    (bytes, lines)
 }
 
 /// Brings filled tables into the state that a row begins with.
@@ -219,6 +236,17 @@ pub fn run<I: Index>(kind: Kind, tables: &mut Tables, ops: &[Op]) -> u64 {
                 sum = note(sum, I::flush(memory, flash, op.key as u32));
             }
         }
+        Kind::Text => sum = write_texts::<I>(tables, ops),
+    }
+    sum
+}
+
+/// Writes each text over the one before it.
+fn write_texts<I: Index>(tables: &mut Tables, ops: &[Op]) -> u64 {
+    let mut sum = 0;
+    for op in ops {
+        let (memory, flash, text) = tables.areas_and_text(op.table as usize);
+        sum = note(sum, I::text(memory, flash, op.key as u32, text));
     }
     sum
 }

@@ -15,6 +15,9 @@ enum { S = 0, PAGE = 64, PAGES = 1, KEPT = 2, BITS = 64, HASHES = 3, LIST = 1 };
 static uint8_t memory[MX_MEMORY_NEED(S, PAGE, PAGES, KEPT, BITS, LIST)];
 static uint8_t flash[MX_FLASH_NEED(S, PAGE, PAGES, KEPT)];
 
+/* Room for a line of 48 bytes, the longest, for every entry that a partition holds. */
+static uint8_t text[48 * (KEPT + 1) * PAGES * (PAGE / 16 - 1)];
+
 static void show(const char *call, mx_answer a)
 {
     printf("%s: ", call);
@@ -64,6 +67,16 @@ static void show_count(void)
     }
 }
 
+static void show_text(void)
+{
+    mx_answer a = mx_text(memory, sizeof memory, flash, sizeof flash, 0, text, sizeof text);
+    if (a.status == MX_DONE) {
+        printf("text: bytes %" PRIu64 "\n%.*s", a.value, (int)a.value, (const char *)text);
+    } else {
+        show("text", a);
+    }
+}
+
 static void show_page(uint32_t flush)
 {
     mx_answer a = mx_view(memory, sizeof memory, flash, sizeof flash, 0, 0, flush);
@@ -91,6 +104,7 @@ int main(void)
     show("get 2", get(2));
     show("del 3", del(3)); /* the list has one place, which key 2 has */
     show_count(); /* three in the batch, where key 2 still is, and one in the buffer */
+    show_text(); /* what a get finds: two of the batch, then that of the buffer */
     show_page(0);
     show_page(1);
     show_page(2);

@@ -57,6 +57,16 @@ fn tell(answer: Result<String, Refused>) -> String {
     })
 }
 
+/// What a get finds: two of the batch, then that of the buffer.
+fn write_text(output: &mut impl Write, index: &Index) -> Result<(), Box<dyn std::error::Error>> {
+    // A line is at most 48 bytes long, and no key has two.
+    let mut text = vec![0; 48 * index.count(0)? as usize];
+    let length = index.text(0, &mut text)?;
+    writeln!(output, "text: bytes {length}")?;
+    output.write_all(&text[..length])?;
+    Ok(())
+}
+
 /// Writes what `first.c` writes.
 pub fn run(output: &mut impl Write) -> Result<(), Box<dyn std::error::Error>> {
     let geometry = geometry();
@@ -85,6 +95,7 @@ pub fn run(output: &mut impl Write) -> Result<(), Box<dyn std::error::Error>> {
     writeln!(output, "del 3: {}", pages(index.del(3).map(|()| 0)))?;
     // Three in the batch, where key 2 still is, and one in the buffer.
     writeln!(output, "count: {}", entries(index.count(0)))?;
+    write_text(output, &index)?;
     for flush in 0..3 {
         writeln!(output, "view {flush}: {}", page(index.view(0, 0, flush)))?;
     }

@@ -229,6 +229,42 @@ impl<'a> Index<'a> {
         Ok(accepted(answer)?.number)
     }
 
+    /// Writes the partition to the text area as lines of the session program,
+    /// `(put key value)` for each key that a get finds, with the value found and
+    /// byte 10 at the end: the bytes written. Those behind them stay.
+    ///
+    /// The oldest batch comes first and the buffer last, and within a batch the
+    /// lines stand by page and place of the entry. From a table that calls have
+    /// made since a format, the lines, read into a fresh table of the same
+    /// geometry, give every key of the partition the value that it had, or none;
+    /// and they are at most as many as the partition [counts](Index::count)
+    /// entries, of at most 48 bytes each.
+    ///
+    /// All pages of the buffer and of the live batches are read. Where the text
+    /// area is too short nothing is written, and the call is refused with
+    /// [`ShortText`](Refused::ShortText).
+    ///
+    /// ```
+    /// # use mortxizal::{Geometry, Index, Refused};
+    /// # let geometry = Geometry { parts: 1, ..Geometry::default() };
+    /// # let mut memory = vec![0; geometry.memory_need()?];
+    /// # let mut flash = vec![0; geometry.flash_need()?];
+    /// # let mut index = Index::format(&mut memory, &mut flash, geometry)?;
+    /// index.put(7, 70)?;
+    /// index.flush(0)?;
+    /// index.put(8, 80)?;
+    /// let mut text = vec![0; 48 * index.count(0)? as usize];
+    /// let length = index.text(0, &mut text)?;
+    /// assert_eq!(&text[..length], b"(put 7 70)\n(put 8 80)\n");
+    /// assert_eq!(index.text(0, &mut text[..length - 1]), Err(Refused::ShortText));
+    /// # Ok::<(), mortxizal::Refused>(())
+    /// ```
+    #[inline]
+    pub fn text(&self, partition: u32, text: &mut [u8]) -> Result<usize, Refused> {
+        let answer = raw::text(self.memory, self.flash, partition, text);
+        Ok(accepted(answer)?.value as usize)
+    }
+
     /// One page where it stands: of the buffer for flush number 0, else of the
     /// live batch with that number.
     ///

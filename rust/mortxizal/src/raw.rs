@@ -23,11 +23,11 @@ pub struct Answer {
     pub reads: u32,
     /// Found: 0 in the buffer, else the batch's number. View: 0 in memory, 1 in flash.
     pub batch: u32,
-    /// Found: the value. View: where the page begins in that area.
+    /// Found: the value. View: where the page begins in that area. Text: its bytes.
     pub value: u64,
 }
 
-/// The status of an accepted format, put, del, flush, view or count.
+/// The status of an accepted format, put, del, flush, view, count or text.
 pub const DONE: u32 = 0;
 /// The status of a get that found the key.
 pub const FOUND: u32 = 1;
@@ -97,6 +97,15 @@ mod c {
             flash: *const u8,
             flash_len: usize,
             partition: u32,
+        ) -> Answer;
+        pub fn mx_text(
+            memory: *const u8,
+            memory_len: usize,
+            flash: *const u8,
+            flash_len: usize,
+            partition: u32,
+            text: *mut u8,
+            text_len: usize,
         ) -> Answer;
     }
 }
@@ -168,4 +177,12 @@ pub fn count(memory: &[u8], flash: &[u8], partition: u32) -> Answer {
     let (m, f) = (memory.as_ptr(), flash.as_ptr());
     // SAFETY: the pointers and lengths are those of two slices.
     unsafe { c::mx_count(m, memory.len(), f, flash.len(), partition) }
+}
+
+/// Writes the partition as session lines.
+#[inline]
+pub fn text(memory: &[u8], flash: &[u8], partition: u32, text: &mut [u8]) -> Answer {
+    let (m, f, t) = (memory.as_ptr(), flash.as_ptr(), text.as_mut_ptr());
+    // SAFETY: the pointers and lengths are those of three slices.
+    unsafe { c::mx_text(m, memory.len(), f, flash.len(), partition, t, text.len()) }
 }

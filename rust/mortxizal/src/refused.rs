@@ -5,7 +5,7 @@ use std::fmt;
 
 use crate::raw;
 
-/// Why a call was refused. A refused call has changed no byte of either area.
+/// Why a call was refused. A refused call has changed no byte of any area.
 ///
 /// ```
 /// use mortxizal::{Index, Refused};
@@ -24,21 +24,21 @@ pub enum Refused {
     ShortMemory,
     /// 3: flash is shorter than the table needs.
     ShortFlash,
-    /// 4: there is no such partition (flush, view, count) or page (view).
+    /// 4: there is no such partition (flush, view, count, text) or page (view).
     OutOfRange,
     /// 11: memory does not open with an allowed geometry: it was never
     /// formatted, or it is damaged. Every call but format gives it.
     Opening,
     /// 12: the partition lists more keys than it has places for, a buffer page
-    /// that the call reads counts more entries than fit, or the partition's total
-    /// is above what fits, or would end above that or below 0 (put, del, flush):
-    /// memory is damaged, or was filled before totals were kept and has to be
-    /// formatted anew.
+    /// that the call reads counts more entries than fit (a text reads them all),
+    /// or the partition's total is above what fits, or would end above that or
+    /// below 0 (put, del, flush): memory is damaged, or was filled before totals
+    /// were kept and has to be formatted anew.
     Overfull,
-    /// 13: a page read from flash is not the one expected there (get, view, and
-    /// put and flush where a batch goes): flash is damaged, or memory is.
+    /// 13: a page read from flash is not the one expected there (get, view, text,
+    /// and put and flush where a batch goes): flash is damaged, or memory is.
     BatchPage {
-        /// The flash pages read, with this one.
+        /// The flash pages read, with this one; of a text always 0.
         reads: u32,
     },
     /// 14: the key has to be listed as deleted, and its partition's list is
@@ -52,6 +52,8 @@ pub enum Refused {
     NotLive,
     /// 21: the value is 0, which is no position (put).
     NoPosition,
+    /// 22: the text area is too short for the text (text).
+    ShortText,
 }
 
 impl Refused {
@@ -70,6 +72,7 @@ impl Refused {
             Refused::NumbersSpent => 16,
             Refused::NotLive => 17,
             Refused::NoPosition => 21,
+            Refused::ShortText => 22,
         }
     }
 
@@ -101,6 +104,7 @@ impl Refused {
             16 => Refused::NumbersSpent,
             17 => Refused::NotLive,
             21 => Refused::NoPosition,
+            22 => Refused::ShortText,
             // The library is proved to give no other.
             number => unreachable!("refusal {number}"),
         })
@@ -124,6 +128,7 @@ impl fmt::Display for Refused {
             Refused::NumbersSpent => "the flush numbers are used up",
             Refused::NotLive => "there is no live batch with this flush number",
             Refused::NoPosition => "the value is 0, which is no position",
+            Refused::ShortText => "the text area is too short for the text",
         };
         write!(output, "{text} (refusal {})", self.number())
     }

@@ -55,6 +55,61 @@ fn worked_session() {
     assert_eq!(index.flush(0), Ok(1));
     assert_eq!(index.get(0), found(40, 1, Place::Batch(2)));
     assert_eq!(index.count(0), Ok(4));
+    let text = text_of(&index, 0);
+    assert_eq!(text, Ok("(put 1 10)\n(put 3 30)\n(put 0 40)\n".into()));
+}
+
+/// The text of a partition, in an area that every text of G fits.
+fn text_of(index: &Index, partition: u32) -> Result<String, Refused> {
+    let mut text = [0; 48 * 9];
+    let length = index.text(partition, &mut text)?;
+    Ok(String::from_utf8(text[..length].to_vec()).unwrap())
+}
+
+#[test]
+fn a_text_area_of_any_length() {
+    let (mut memory, mut flash) = areas(G);
+    let mut index = Index::format(&mut memory, &mut flash, G).unwrap();
+    assert_eq!(index.text(0, &mut []), Ok(0));
+    index.put(5, 50).unwrap();
+    index.flush(0).unwrap();
+    index.put(u64::MAX, u64::MAX).unwrap();
+    let expected = format!("(put 5 50)\n(put {0} {0})\n", u64::MAX);
+    assert_eq!(expected.len(), 59);
+    for length in [0, 1, 11, 58] {
+        let mut text = vec![7; length];
+        assert_eq!(index.text(0, &mut text), Err(Refused::ShortText));
+        assert_eq!(text, vec![7; length]);
+    }
+    for length in [59, 60, 500] {
+        let mut text = vec![7; length];
+        assert_eq!(index.text(0, &mut text), Ok(59));
+        assert_eq!(&text[..59], expected.as_bytes());
+        assert_eq!(&text[59..], vec![7; length - 59]);
+    }
+    let answer = raw::text(index.memory(), index.flash(), 0, &mut [0; 59]);
+    let told = (answer.status, answer.number, answer.reads);
+    assert_eq!(told, (raw::DONE, 0, 0));
+    assert_eq!((answer.batch, answer.value), (0, 59));
+}
+
+#[test]
+fn a_text_of_a_damaged_table() {
+    let g = Geometry { pages: 2, ..G };
+    let (mut memory, mut flash) = areas(g);
+    let mut index = Index::format(&mut memory, &mut flash, g).unwrap();
+    index.put(1, 10).unwrap();
+    index.flush(0).unwrap();
+    // Small keys belong to page 0, but both pages of the batch are looked at.
+    flash[64 + 4] = 1;
+    let index = Index::attach(&mut memory, &mut flash);
+    assert_eq!(text_of(&index, 0), Err(Refused::BatchPage { reads: 0 }));
+    assert_eq!(text_of(&index, 1), Err(Refused::OutOfRange));
+    // The second page of the buffer is memory's last 64 bytes.
+    let at = memory.len() - 64;
+    memory[at] = 4;
+    let index = Index::attach(&mut memory, &mut flash);
+    assert_eq!(text_of(&index, 0), Err(Refused::Overfull));
 }
 
 #[test]
@@ -96,6 +151,7 @@ fn a_total_that_cannot_be() {
     assert_eq!(index.del(5), Err(Refused::Overfull));
     assert_eq!(index.flush(0), Err(Refused::Overfull));
     assert_eq!(index.view(0, 0, 0), Err(Refused::Overfull));
+    assert_eq!(text_of(&index, 0), Err(Refused::Overfull));
     memory[40] = 9;
     let mut index = Index::attach(&mut memory, &mut flash);
     assert_eq!(index.count(0), Ok(9));
@@ -217,6 +273,7 @@ fn areas_of_no_bytes() {
     assert_eq!(index.flush(0), Err(short));
     assert_eq!(index.view(0, 0, 0), Err(short));
     assert_eq!(index.count(0), Err(short));
+    assert_eq!(index.text(0, &mut []), Err(short));
     assert_eq!(Index::format(&mut [], &mut [], G).unwrap_err(), short);
 }
 

@@ -1,4 +1,4 @@
-/* What include/mortxizal.h promises of sizes, checked by the compiler; C99 has no static assertion. */
+/* What include/mortxizal.h promises of sizes and numbers, checked by the compiler; C99 has no static assertion. */
 #include "mortxizal.h"
 
 #define HOLDS(name, fact) typedef char name[(fact) ? 1 : -1]
@@ -17,6 +17,9 @@ HOLDS(session_memory, MX_MEMORY_NEED(0, 64, 1, 2, 64, 1) == 144);
 HOLDS(session_flash, MX_FLASH_NEED(0, 64, 1, 2) == 128);
 HOLDS(largest_memory, MX_MEMORY_NEED(8, 4096, 64, 32, 65536, 1024) == 138416160);
 HOLDS(largest_flash, MX_FLASH_NEED(8, 4096, 64, 32) == 2147483648);
+
+HOLDS(short_text, MX_REFUSED_SHORT_TEXT == 22);
+HOLDS(longest_line, sizeof "(put 18446744073709551615 18446744073709551615)\n" - 1 == 48);
 
 int main(void)
 {

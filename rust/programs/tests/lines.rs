@@ -49,6 +49,7 @@ const BAD: &[&str] = &[
     "(count 4294967296)",
     "(counts 0)",
     "(view 0 0 0)",
+    "(text 0)",
     "(format)",
     "(format (parts 0) (page 64) (pages 1) (kept 2) (bits 64) (hashes 3))",
     "(format (parts 0) (page 64) (pages 1) (kept 2) (bits 64) (hashes 3) (list 1)",

@@ -18,7 +18,7 @@ pub enum Refusal {
     Overfull,
     /// 13: a flash page read is not the page expected there.
     BatchPage {
-        /// The pages read so far, with the failed one.
+        /// The pages read so far, with the failed one. A text counts none.
         reads: u32,
     },
     /// 14: the key has to be listed and the list is full.
@@ -31,6 +31,8 @@ pub enum Refusal {
     NotLive,
     /// 21: the value is 0, where the store never puts sound.
     NoPosition,
+    /// 22: the text area is shorter than the text.
+    ShortText,
 }
 
 impl Refusal {
@@ -49,6 +51,7 @@ impl Refusal {
             Refusal::NumbersSpent => 16,
             Refusal::NotLive => 17,
             Refusal::NoPosition => 21,
+            Refusal::ShortText => 22,
         }
     }
 

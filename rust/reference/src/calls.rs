@@ -193,7 +193,7 @@ pub fn view_part<'a>(
 }
 
 #[inline]
-fn name_of(layout: &Layout, key: u64) -> Name {
+pub(crate) fn name_of(layout: &Layout, key: u64) -> Name {
     Name {
         partition: key::partition(layout, key),
         page: key::page_number(layout, key),
@@ -201,7 +201,7 @@ fn name_of(layout: &Layout, key: u64) -> Name {
 }
 
 #[inline]
-fn below(argument: u32, bound: usize) -> Result<usize, Refusal> {
+pub(crate) fn below(argument: u32, bound: usize) -> Result<usize, Refusal> {
     let argument = argument as usize;
     if argument < bound {
         Ok(argument)
@@ -211,6 +211,11 @@ fn below(argument: u32, bound: usize) -> Result<usize, Refusal> {
 }
 
 #[inline]
-fn flash_page<'a>(layout: &Layout, flash: &'a [u8], name: Name, slot: usize) -> &'a [u8] {
+pub(crate) fn flash_page<'a>(
+    layout: &Layout,
+    flash: &'a [u8],
+    name: Name,
+    slot: usize,
+) -> &'a [u8] {
     &flash[layout.page_at(name.partition, slot, name.page)..][..layout.page_bytes()]
 }

@@ -2,8 +2,8 @@
 //!
 //! The index keeps nothing of its own. Every call is lent two byte areas,
 //! memory and flash, of any length and any content: it judges them first, is
-//! refused without changing a byte, or works on them in place. No call
-//! allocates and none can panic.
+//! refused without changing a byte, or works on them in place. A text is
+//! written to a third. No call allocates and none can panic.
 //!
 //! This crate is written from the documents alone. It is the other side of a
 //! comparison byte by byte with the proved engine and the baseline that the
@@ -24,7 +24,9 @@ mod page;
 mod partition;
 mod record;
 pub mod session;
+mod text;
 
 pub use answer::{Lookup, Place, Refusal};
 pub use calls::{count, del, flush, format, get, put, view, view_part};
 pub use geometry::{Geometry, Layout};
+pub use text::text;

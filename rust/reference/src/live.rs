@@ -1,4 +1,4 @@
-//! The live batches of a partition, youngest first.
+//! The live batches of a partition, youngest or oldest first.
 
 /// A live batch.
 #[derive(Clone, Copy, Debug)]
@@ -19,6 +19,16 @@ pub fn next_slot(flushes: u32, kept: u32) -> usize {
 #[inline]
 pub fn is_live(number: u32, flushes: u32, kept: u32) -> bool {
     (1..=flushes).contains(&number) && flushes - number < kept
+}
+
+/// The latest min(K, F) batches by rising number.
+#[inline]
+pub fn oldest_first(flushes: u32, kept: u32) -> impl Iterator<Item = Batch> {
+    let live = flushes.min(kept);
+    (flushes - live + 1..=flushes).map(move |number| Batch {
+        number,
+        slot: next_slot(number - 1, kept),
+    })
 }
 
 /// The latest min(K, F) batches by falling number. Slots are walked backwards

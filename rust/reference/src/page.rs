@@ -7,7 +7,7 @@
 use crate::record::Record;
 
 /// A page's place in the table, as its head tells it.
-#[derive(Clone, Copy, Debug)]
+#[derive(Clone, Copy, Debug, PartialEq, Eq)]
 pub struct Name {
     /// The partition.
     pub partition: usize,

@@ -120,7 +120,7 @@ fn count_tells_the_head_and_reads_no_page() {
 #[test]
 fn refusal_12_for_the_total_in_every_call() {
     type Made = fn(&mut Table) -> Result<(), Refusal>;
-    let calls: [Made; 8] = [
+    let calls: [Made; 9] = [
         |t| t.get(1).map(drop),
         |t| t.get(KEYS[0]).map(drop),
         |t| t.put(KEYS[0], 2).map(drop),
@@ -129,6 +129,7 @@ fn refusal_12_for_the_total_in_every_call() {
         |t| t.view(0, 0, 0).map(drop),
         |t| t.view(0, 0, 1).map(drop),
         |t| t.count(0).map(drop),
+        |t| t.text(0).map(drop),
     ];
     let mut table = Table::new(WIDE);
     table.put(KEYS[1], 1).unwrap();

@@ -16,12 +16,13 @@ fn random_call(rng: &mut Rng, g: Geometry, keys: &[u64]) -> Call {
         1 => rng.next() as u32,
         _ => rng.below(1 << g.parts) as u32,
     };
-    match rng.below(17) {
+    match rng.below(18) {
         0..=5 => Call::Put(rng.pick(keys), rng.value()),
         6..=9 => Call::Get(rng.pick(keys)),
         10..=11 => Call::Del(rng.pick(keys)),
         12..=13 => Call::Flush(partition(rng)),
         14 => Call::Count(partition(rng)),
+        15 => Call::Text(partition(rng), rng.pick(&[0, 30, 300, 3000, 30_000])),
         _ => {
             let beyond = usize::from(rng.one_in(8));
             let page = rng.below(g.pages as usize + beyond);

@@ -69,7 +69,7 @@ impl History {
             }
             Call::Del(key) => drop(self.keys.remove(&key)),
             Call::Flush(partition) => self.flush(partition.into()),
-            Call::Get(_) | Call::View(..) | Call::Count(_) => unreachable!(),
+            Call::Get(_) | Call::View(..) | Call::Count(_) | Call::Text(..) => unreachable!(),
         }
     }
 
@@ -104,7 +104,7 @@ struct Weights {
 
 fn random_call(rng: &mut Rng, g: Geometry, keys: &[u64], weights: &Weights) -> Call {
     let Weights { put, del, flush } = *weights;
-    let kind = rng.below(put + del + flush + 3);
+    let kind = rng.below(put + del + flush + 4);
     if kind < put {
         Call::Put(rng.pick(keys), rng.value())
     } else if kind < put + del {
@@ -116,6 +116,9 @@ fn random_call(rng: &mut Rng, g: Geometry, keys: &[u64], weights: &Weights) -> C
         Call::View(rng.below(1 << g.parts) as u32, 0, number as u32)
     } else if kind == put + del + flush + 1 {
         Call::Count(rng.below((1 << g.parts) + 1) as u32)
+    } else if kind == put + del + flush + 2 {
+        let room = rng.pick(&[0, 100, 1000, 10_000, 100_000]);
+        Call::Text(rng.below((1 << g.parts) + 1) as u32, room)
     } else {
         Call::Get(rng.pick(keys))
     }
@@ -129,6 +132,7 @@ fn check_refusal(call: Call, answer: Answer) {
             Call::Flush(_) => &[4, 15],
             Call::View(..) => &[17],
             Call::Count(_) => &[4],
+            Call::Text(..) => &[4, 22],
             Call::Format(_) => &[1],
             Call::Put(_, 0) => &[21],
             Call::Put(..) | Call::Get(_) => &[],

@@ -14,7 +14,8 @@ const DEL: Call = |t| t.del(PAGE_1);
 const FLUSH: Call = |t| t.flush(0).map(drop);
 const VIEW: Call = |t| t.view(0, 0, 9).map(drop);
 const COUNT: Call = |t| t.count(0).map(drop);
-const ALL: [Call; 7] = [PUT, PUT_0, GET, DEL, FLUSH, VIEW, COUNT];
+const TEXT: Call = |t| t.text(0).map(drop);
+const ALL: [Call; 8] = [PUT, PUT_0, GET, DEL, FLUSH, VIEW, COUNT, TEXT];
 
 #[test]
 fn format_checks_1_2_3() {
@@ -88,6 +89,7 @@ fn flash_comes_before_the_arguments_and_the_state() {
     }
     assert_eq!(table.refuses(|t| t.flush(1)), (3, 0));
     assert_eq!(table.refuses(|t| t.count(1)), (3, 0));
+    assert_eq!(table.refuses(|t| t.text(1)), (3, 0));
     assert_eq!(table.refuses(|t| t.view(1, 0, 0).map(drop)), (3, 0));
     assert_eq!(table.refuses(|t| t.view(0, 1, 0).map(drop)), (3, 0));
 }
@@ -101,10 +103,12 @@ fn the_arguments_come_before_the_counts() {
     }
     assert_eq!(table.refuses(|t| t.flush(2)), (4, 0));
     assert_eq!(table.refuses(|t| t.count(2)), (4, 0));
+    assert_eq!(table.refuses(|t| t.text(2)), (4, 0));
     assert_eq!(table.refuses(|t| t.view(2, 0, 0).map(drop)), (4, 0));
     assert_eq!(table.refuses(|t| t.view(0, 2, 0).map(drop)), (4, 0));
     assert_eq!(table.refuses(|t| t.flush(1)), (12, 0));
     assert_eq!(table.refuses(|t| t.count(1)), (12, 0));
+    assert_eq!(table.refuses(|t| t.text(1)), (12, 0));
     assert_eq!(table.refuses(|t| t.view(0, 1, 0).map(drop)), (12, 0));
 }
 
@@ -117,7 +121,7 @@ fn the_total_comes_where_l_does() {
     assert_eq!(table.refuses(PUT_0), (21, 0));
     assert_eq!(table.refuses(|t| t.view(0, 2, 0).map(drop)), (4, 0));
     // No page is there for the view, and nothing for the flush.
-    for call in [PUT, GET, DEL, FLUSH, VIEW, COUNT] {
+    for call in [PUT, GET, DEL, FLUSH, VIEW, COUNT, TEXT] {
         assert_eq!(table.refuses(call), (12, 0));
     }
     table.flash.pop();

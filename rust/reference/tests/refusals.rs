@@ -8,7 +8,7 @@ use reference::{format, Geometry, Refusal};
 type Call = fn(&mut Table) -> Result<(), Refusal>;
 
 /// Every call but format, with arguments that are in range.
-const CALLS: [Call; 7] = [
+const CALLS: [Call; 8] = [
     |t| t.put(PAGE_1, 1).map(drop),
     |t| t.get(PAGE_1).map(drop),
     |t| t.del(PAGE_1),
@@ -16,6 +16,7 @@ const CALLS: [Call; 7] = [
     |t| t.view(0, 0, 0).map(drop),
     |t| t.view(0, 0, 1).map(drop),
     |t| t.count(0).map(drop),
+    |t| t.text(0).map(drop),
 ];
 
 /// Every call but format is refused with the number and 0 reads.
@@ -122,6 +123,7 @@ fn refusal_4_at_s_and_q() {
     for partition in [2, 3, u32::MAX] {
         assert_eq!(table.refuses(|t| t.flush(partition)), (4, 0));
         assert_eq!(table.refuses(|t| t.count(partition)), (4, 0));
+        assert_eq!(table.refuses(|t| t.text(partition)), (4, 0));
         assert_eq!(table.refuses(|t| t.view(partition, 0, 0).map(drop)), (4, 0));
     }
     for page in [2, 3, u32::MAX] {
@@ -174,6 +176,7 @@ fn refusal_12_for_the_list() {
     assert_eq!(table.refuses(|t| t.get(u64::MAX)), (12, 0));
     assert_eq!(table.refuses(|t| t.flush(1)), (12, 0));
     assert_eq!(table.refuses(|t| t.count(1)), (12, 0));
+    assert_eq!(table.refuses(|t| t.text(1)), (12, 0));
 }
 
 #[test]

@@ -85,7 +85,7 @@ fn before_a_format_every_form_is_refused() {
 }
 
 /// Texts that are no form.
-const BAD: [&[u8]; 47] = [
+const BAD: [&[u8]; 48] = [
     b"",
     b" ",
     b"(",
@@ -128,6 +128,7 @@ const BAD: [&[u8]; 47] = [
     b"(flush)",
     b"(flush 0 0)",
     b"(view 0 0 0)",
+    b"(text 0)",
     b"(count)",
     b"(count 0 0)",
     b"(counts 0)",

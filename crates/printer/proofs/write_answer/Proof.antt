@@ -1,4 +1,6 @@
 -- Each case writes the definition's text of it.
+use native.Mathlib.Omega.{arith}
+use Rattle.printer.proofs.Printing.{room-one, room-two}
 use Rattle.model.specs.Session.{answerText}
 use borrow.Author.Needs.{needs}
 use Rattle.printer.proofs.write_answer.Statement.{statement}
@@ -16,4 +18,4 @@ returns-3 : tie.Need-returns-3
 returns-3 c = rw (c .before .before .before .before .before .answer3 .given .1) (c .before .before .write-refusal .ensures)
 
 pub write-answer-spec : {M : Type 1} → statement M
-write-answer-spec = tie.close (tie.spec (λ c. search needs) (λ c. search needs) (λ c. search needs) (λ c κs. search needs) (λ c. search needs) (λ c. search needs) (λ c. search needs) (λ c κs. search needs) (λ c. search needs) (λ c κs. search needs) (λ c. search needs) returns (λ c. search needs) returns-2 (λ c. search needs) returns-3)
+write-answer-spec = tie.close (tie.spec (λ c. search needs) (λ c. search needs) (λ c. search needs) (λ c κs. room-two _ _ _ _ _ (omega arith) (omega arith)) (λ c. search needs) (λ c. search needs) (λ c. search needs) (λ c κs. room-one _ _ _ _ (omega arith) (omega arith)) (λ c. search needs) (λ c κs. search needs) (λ c. search needs) returns (λ c. search needs) returns-2 (λ c. search needs) returns-3)

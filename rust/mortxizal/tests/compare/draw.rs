@@ -97,6 +97,10 @@ pub fn call(rng: &mut Rng, pair: &mut Pair, keys: &[u64]) -> Call {
         65..=79 => Call::Del(rng.pick(keys)),
         80..=87 => Call::Flush(partition(rng, g)),
         88..=90 => Call::Count(partition(rng, g)),
+        91..=93 => {
+            let t = partition(rng, g);
+            Call::Text(t, room(rng, &pair.plain, t))
+        }
         _ => {
             let t = partition(rng, g);
             let page = match rng.below(24) {
@@ -113,6 +117,18 @@ pub fn call(rng: &mut Rng, pair: &mut Pair, keys: &[u64]) -> Call {
             ];
             Call::View(t, page, rng.pick(&numbers))
         }
+    }
+}
+
+/// The length of a text area, most often around what the text needs.
+fn room(rng: &mut Rng, table: &Table, t: u32) -> usize {
+    let length = table.text(t).map_or(11, |text| text.len());
+    match rng.below(6) {
+        0 => 0,
+        1 => length.saturating_sub(1),
+        2 => length + 1,
+        3 => length + 2 + rng.below(4000),
+        _ => length,
     }
 }
 

@@ -3,7 +3,7 @@
 use mortxizal::raw;
 use mortxizal::{Geometry, Index, Lookup, Place, Refused};
 
-use crate::common::call::{call_index, Answer, Call};
+use crate::common::call::{call_index, digest, index_text, Answer, Call, BLANK};
 use crate::common::tally::Tally;
 use crate::common::{Rng, Table};
 
@@ -86,6 +86,10 @@ impl Pair {
         let expected = call_index(call, &mut self.plain.memory, &mut self.plain.flash);
         let (memory, flash) = (self.memory.lend(), self.flash.lend());
         match call {
+            Call::Text(t, room) => {
+                let (_, area) = index_text(&self.plain.memory, &self.plain.flash, t, room);
+                check_text(rng, memory, flash, t, &area, expected);
+            }
             Call::Get(_) | Call::View(..) | Call::Count(_) => {
                 assert_eq!(call_raw(call, memory, flash), told(expected), "{call:?}");
                 check_library(call, memory, flash, expected);
@@ -127,6 +131,7 @@ fn told(answer: Answer) -> raw::Answer {
         Answer::None(reads) => (raw::NONE, 0, reads, 0, 0),
         Answer::InMemory(at, size) => (raw::DONE, size as u32, 0, 0, at as u64),
         Answer::InFlash(at, size) => (raw::DONE, size as u32, 1, 1, at as u64),
+        Answer::Text(length, _) => (raw::DONE, 0, 0, 0, length as u64),
         Answer::Refused(number, reads) => (raw::REFUSED, number, reads, 0, 0),
     };
     raw::Answer {
@@ -159,7 +164,31 @@ fn call_raw(call: Call, memory: &mut [u8], flash: &mut [u8]) -> raw::Answer {
         Call::Flush(partition) => raw::flush(memory, flash, partition),
         Call::View(partition, page, flush) => raw::view(memory, flash, partition, page, flush),
         Call::Count(partition) => raw::count(memory, flash, partition),
+        Call::Text(..) => unreachable!("a text has its own check"),
     }
+}
+
+/// Has the library write the text by both ways, each in a text area of its own:
+/// the answer is the expected one, and the area is left as the Rust index left
+/// its own, also by a refusal.
+fn check_text(
+    rng: &mut Rng,
+    memory: &mut [u8],
+    flash: &mut [u8],
+    t: u32,
+    left: &[u8],
+    expected: Answer,
+) {
+    let blank = vec![BLANK; left.len()];
+    let mut area = Area::new(rng, &blank);
+    let answer = raw::text(memory, flash, t, area.lend());
+    assert_eq!(answer, told(expected), "text of {t}");
+    assert!(area.is(left), "text of {t}: the text area");
+    let mut area = Area::new(rng, &blank);
+    let answer = Index::attach(memory, flash).text(t, area.lend());
+    assert!(area.is(left), "text of {t}: the text area");
+    let answer = answer.map(|length| Answer::Text(length, digest(left)));
+    assert_eq!(answer.unwrap_or_else(refused), expected, "text of {t}");
 }
 
 /// Makes the call with the library's `Index`, whose answer is the expected one.
@@ -184,9 +213,13 @@ fn check_library(call: Call, memory: &mut [u8], flash: &mut [u8], expected: Answ
         Call::Count(partition) => Index::attach(memory, flash)
             .count(partition)
             .map(Answer::Counted),
+        Call::Text(..) => unreachable!("a text has its own check"),
     };
-    let refused = |refused: Refused| Answer::Refused(refused.number(), refused.reads());
     assert_eq!(answer.unwrap_or_else(refused), expected, "{call:?}");
+}
+
+fn refused(refused: Refused) -> Answer {
+    Answer::Refused(refused.number(), refused.reads())
 }
 
 fn lookup(lookup: Lookup) -> Answer {

@@ -14,6 +14,8 @@ pub enum Call {
     Flush(u32),
     View(u32, u32, u32),
     Count(u32),
+    /// Of a partition, with a text area of so many bytes.
+    Text(u32, usize),
 }
 
 impl Call {
@@ -22,12 +24,13 @@ impl Call {
         match self {
             Call::Format(_) => None,
             Call::Put(key, _) | Call::Get(key) | Call::Del(key) => Some(home(g, key).0 as u32),
-            Call::Flush(t) | Call::View(t, ..) | Call::Count(t) => Some(t),
+            Call::Flush(t) | Call::View(t, ..) | Call::Count(t) | Call::Text(t, _) => Some(t),
         }
     }
 }
 
-/// A call's answer. A view tells where its part begins and how long it is.
+/// A call's answer. A view tells where its part begins and how long it is, a
+/// text how long it is and a digest of the whole text area behind the call.
 #[derive(Clone, Copy, Debug, PartialEq, Eq)]
 pub enum Answer {
     Refused(u32, u32),
@@ -37,7 +40,11 @@ pub enum Answer {
     None(u32),
     InMemory(usize, usize),
     InFlash(usize, usize),
+    Text(usize, u64),
 }
+
+/// What a text area is filled with before a call.
+pub const BLANK: u8 = 7;
 
 /// Makes the call with the index.
 pub fn call_index(call: Call, memory: &mut [u8], flash: &mut [u8]) -> Answer {
@@ -49,6 +56,10 @@ pub fn call_index(call: Call, memory: &mut [u8], flash: &mut [u8]) -> Answer {
         Call::Del(key) => reference::del(memory, flash, key).map(|()| Answer::Done(0)),
         Call::Flush(t) => reference::flush(memory, flash, t).map(Answer::Done),
         Call::Count(t) => reference::count(memory, flash, t).map(Answer::Counted),
+        Call::Text(t, room) => {
+            let (answer, area) = index_text(memory, flash, t, room);
+            answer.map(|length| Answer::Text(length, digest(&area)))
+        }
         Call::View(t, q, n) => {
             let part = reference::view_part(memory, flash, t, q, n);
             let place = offset(part, memory, flash);
@@ -61,6 +72,27 @@ pub fn call_index(call: Call, memory: &mut [u8], flash: &mut [u8]) -> Answer {
         }
     }
     .unwrap_or_else(refused)
+}
+
+/// What text answers and leaves in an area of so many bytes: a refused one has
+/// written nothing, an accepted one nothing behind the text.
+pub fn index_text(
+    memory: &[u8],
+    flash: &[u8],
+    t: u32,
+    room: usize,
+) -> (Result<usize, Refusal>, Vec<u8>) {
+    let mut area = vec![BLANK; room];
+    let answer = reference::text(memory, flash, t, &mut area);
+    let behind = &area[answer.unwrap_or(0)..];
+    assert!(behind.iter().all(|&byte| byte == BLANK), "text of {t}");
+    (answer, area)
+}
+
+/// FNV-1a.
+pub fn digest(bytes: &[u8]) -> u64 {
+    let mix = |sum: u64, &byte: &u8| (sum ^ u64::from(byte)).wrapping_mul(0x100_0000_01b3);
+    bytes.iter().fold(0xcbf2_9ce4_8422_2325, mix)
 }
 
 fn lookup(lookup: Lookup) -> Answer {

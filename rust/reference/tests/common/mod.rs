@@ -186,6 +186,15 @@ impl Table {
         reference::count(&self.memory, &self.flash, partition)
     }
 
+    /// The partition's text, with room for any.
+    pub fn text(&self, partition: u32) -> Result<String, Refusal> {
+        // A line is at most 48 bytes long, for an entry of 16.
+        let mut area = vec![0; 3 * (self.memory.len() + self.flash.len())];
+        let length = reference::text(&self.memory, &self.flash, partition, &mut area)?;
+        area.truncate(length);
+        Ok(String::from_utf8(area).expect("a text of ASCII bytes"))
+    }
+
     fn partition_at(&self, t: usize) -> usize {
         32 + t * partition_bytes(self.g)
     }

@@ -4,7 +4,7 @@
 
 use reference::Geometry;
 
-use super::call::{Answer, Call};
+use super::call::{digest, Answer, Call, BLANK};
 use super::plain::*;
 
 fn lengths(g: Geometry, memory: &[u8], flash: &[u8]) -> Result<(), Answer> {
@@ -35,6 +35,7 @@ pub fn call_oracle(call: Call, memory: &mut [u8], flash: &mut [u8]) -> Answer {
             Call::Flush(t) => flush(g, memory, flash, t),
             Call::View(t, q, n) => view(g, memory, flash, t, q, n),
             Call::Count(t) => count(g, memory, t),
+            Call::Text(t, room) => text(g, memory, flash, t, room),
             Call::Format(_) => unreachable!(),
         }),
     };
@@ -261,4 +262,50 @@ fn view(
     } else {
         Err(Answer::Refused(13, 1))
     }
+}
+
+/// All pages of a partition that a text reads, the oldest batch first and the
+/// buffer last, with the flush number and the page number of each.
+fn text_pages(
+    g: Geometry,
+    memory: &[u8],
+    flash: &[u8],
+    t: usize,
+) -> Result<Vec<(u32, usize, Page)>, Answer> {
+    let partition = read_partition(g, memory, t);
+    let fit = partition.buffer.iter().all(|page| fits(g, page));
+    check(head_fits(g, &partition) && fit, 12)?;
+    let mut pages = Vec::new();
+    let mut batches: Vec<_> = live(g, partition.flushes).collect();
+    batches.reverse();
+    for (number, slot) in batches {
+        for q in 0..g.pages as usize {
+            let page = read_page(&flash[flash_at(g, t, slot, q)..][..g.page as usize]);
+            check(expected(g, &page, t, q, number), 13)?;
+            pages.push((number as u32, q, page));
+        }
+    }
+    let buffer = partition.buffer.into_iter().enumerate();
+    pages.extend(buffer.map(|(q, page)| (0, q, page)));
+    Ok(pages)
+}
+
+fn text(g: Geometry, memory: &[u8], flash: &[u8], t: u32, room: usize) -> Result<Answer, Answer> {
+    check(t < 1 << g.parts, 4)?;
+    let mut text = String::new();
+    for (number, q, page) in text_pages(g, memory, flash, t as usize)? {
+        for (i, &(key, value)) in page.entries[..page.count as usize].iter().enumerate() {
+            // A get tells the batch, and the key its page: the place in it is left.
+            let here = home(g, key) == (t as usize, q)
+                && find(&page.entries, page.count, key) == Some(i)
+                && matches!(get(g, memory, flash, key)?, Answer::Found(_, _, n) if n == number);
+            if here {
+                text += &format!("(put {key} {value})\n");
+            }
+        }
+    }
+    check(text.len() <= room, 22)?;
+    let mut area = vec![BLANK; room];
+    area[..text.len()].copy_from_slice(text.as_bytes());
+    Ok(Answer::Text(text.len(), digest(&area)))
 }

@@ -22,6 +22,9 @@ pub enum Outcome {
     NoneRead,
     InMemory,
     InFlash,
+    /// A text of at least one line.
+    Lines,
+    EmptyText,
     Refused(u32),
     /// Refused with 12 for a total above what fits, and for nothing else.
     Overcounted,
@@ -35,7 +38,7 @@ use Outcome::*;
 
 /// What each call may come to: accepted or refused for the total, and refused
 /// otherwise. A put of 0 is counted by what another value would have come to.
-const OUTCOMES: [(&str, &[Outcome], &[u32]); 8] = [
+const OUTCOMES: [(&str, &[Outcome], &[u32]); 9] = [
     ("format", &[Changed], &[1, 2, 3]),
     ("put", PUT, &[2, 3, 11, 12, 13, 16]),
     ("put of 0", PUT, &[2, 3, 11, 12, 13, 16]),
@@ -66,6 +69,11 @@ const OUTCOMES: [(&str, &[Outcome], &[u32]); 8] = [
         &[2, 3, 4, 11, 12, 13, 17],
     ),
     ("count", &[Counted, Overcounted], &[2, 3, 4, 11, 12]),
+    (
+        "text",
+        &[Lines, EmptyText, Overcounted],
+        &[2, 3, 4, 11, 12, 13, 22],
+    ),
 ];
 
 const PUT: &[Outcome] = &[Changed, Wrote, Overcounted, EndsAbove, EndsBelow];
@@ -90,6 +98,8 @@ fn outcome(call: Call, answer: Answer, memory: &[u8]) -> Outcome {
         Answer::None(_) => NoneRead,
         Answer::InMemory(..) => InMemory,
         Answer::InFlash(..) => InFlash,
+        Answer::Text(0, _) => EmptyText,
+        Answer::Text(..) => Lines,
         Answer::Refused(12, _) => overfull(call, memory),
         Answer::Refused(number, _) => Refused(number),
     }
@@ -136,6 +146,7 @@ fn name(call: Call) -> &'static str {
         Call::Flush(_) => "flush",
         Call::View(..) => "view",
         Call::Count(_) => "count",
+        Call::Text(..) => "text",
     }
 }
 
