@@ -217,8 +217,14 @@ mx_answer mx_count(const uint8_t *memory, size_t memory_len, const uint8_t *flas
  * comes first and the buffer last, and within a batch the lines stand by page
  * and place of the entry. From a table that calls have made since mx_format, the
  * lines, read into a fresh table of the same numbers, give every key of the
- * partition the value that it had, or none; and they are at most as many as
- * mx_count tells entries, of at most 48 bytes each.
+ * partition the value that it had, or none; and they take at most 48 bytes for
+ * each entry that mx_count tells:
+ *
+ *     mx_answer n = mx_count(memory, memory_len, flash, flash_len, partition);
+ *     size_t text_len = (size_t)48 * n.number;
+ *     uint8_t *text = malloc(text_len + 1);
+ *     mx_answer a = mx_text(memory, memory_len, flash, flash_len, partition, text, text_len);
+ *     fwrite(text, 1, a.value, stdout);
  *
  * All pages of the buffer and of the live batches are read. Bytes of the text
  * area behind the lines stay; where it is too short for them none is written.

@@ -1,12 +1,9 @@
 -- What a flush that is due does, from its checks and from the entries that it drops.
 use Prim.Native.Nat.{ℕ}
-use mathlib.Core.Bool.{not}
 use mathlib.Core.List.{List}
 use mathlib.Core.Option.{Option, none, some}
 use Rattle.model.specs.declared.Geometry.{Geometry}
-use Rattle.model.specs.Search.{firstFrom}
-use Rattle.model.specs.Page.{expected}
-use Rattle.model.specs.Batch.{batchPage, entriesOf, failedHead, dropped}
+use Rattle.model.specs.Batch.{batchPage, entriesOf, failedPage, failedHead, dropped}
 use Rattle.model.specs.Answers.{Refusal}
 use Rattle.model.specs.Refusals.{refuseHead}
 use Rattle.model.specs.Flush.{dueChecks}
@@ -20,8 +17,7 @@ leavingWith none entries = Entries entries
 
 -- of batch n: 13 at the first head that is not the one expected, or its entries
 unfoldable pub headsOf : Geometry → ℕ → ℕ → List ℕ → Leaving
-headsOf g t n f =
-    leavingWith (refuseHead (firstFrom (g .pages) 0 (λ q. not (expected g t n q (batchPage g t f n q)))) none) (entriesOf (batchPage g t f n) (g .pages))
+headsOf g t n f = leavingWith (refuseHead (failedPage g t f n) none) (entriesOf (batchPage g t f n) (g .pages))
 
 -- of the batch that a flush pushes out
 unfoldable pub outgoingOf : Geometry → ℕ → List ℕ → List ℕ → Leaving

@@ -237,8 +237,8 @@ impl<'a> Index<'a> {
     /// lines stand by page and place of the entry. From a table that calls have
     /// made since a format, the lines, read into a fresh table of the same
     /// geometry, give every key of the partition the value that it had, or none;
-    /// and they are at most as many as the partition [counts](Index::count)
-    /// entries, of at most 48 bytes each.
+    /// and they take at most 48 bytes for each entry that the partition
+    /// [counts](Index::count).
     ///
     /// All pages of the buffer and of the live batches are read. Where the text
     /// area is too short nothing is written, and the call is refused with

@@ -2,6 +2,7 @@
 //! reads the lines as the new box does, and every key is looked up in both.
 
 use mortxizal::{Geometry, Index, Refused};
+use programs::random::Rng;
 use programs::run;
 
 /// Four partitions. Both areas fit the session's of 32,768 bytes.
@@ -18,29 +19,14 @@ const GEOMETRY: Geometry = Geometry {
 const FORMAT: &str =
     "(format (parts 2) (page 128) (pages 4) (kept 6) (bits 512) (hashes 4) (list 8))\n";
 
-struct Rng(u64);
-
-impl Rng {
-    fn next(&mut self) -> u64 {
-        self.0 ^= self.0 << 13;
-        self.0 ^= self.0 >> 7;
-        self.0 ^= self.0 << 17;
-        self.0
-    }
-
-    fn below(&mut self, bound: u64) -> u64 {
-        (self.next() >> 11) % bound
-    }
-}
-
 /// So many random puts, dels and flushes.
 fn fill(index: &mut Index, keys: &[u64], calls: u64, rng: &mut Rng) {
     for _ in 0..calls {
-        let key = keys[rng.below(keys.len() as u64) as usize];
+        let key = rng.pick(keys);
         let answer = match rng.below(40) {
             0 => index.flush((key >> 62) as u32).map(drop),
             1..=4 => index.del(key),
-            _ => index.put(key, rng.next()).map(drop),
+            _ => index.put(key, rng.number()).map(drop),
         };
         let usual = matches!(
             answer,
@@ -89,7 +75,7 @@ fn every_key_says_the_same_in_the_new_box() {
     let (mut found, mut none) = (0, 0);
     for seed in 1..=40 {
         let mut rng = Rng(seed << 40 | seed);
-        let keys: Vec<u64> = (0..400).map(|_| rng.next()).collect();
+        let keys: Vec<u64> = (0..400).map(|_| rng.number()).collect();
         let mut memory = vec![0; GEOMETRY.memory_need().unwrap()];
         let mut flash = vec![0; GEOMETRY.flash_need().unwrap()];
         let mut index = Index::format(&mut memory, &mut flash, GEOMETRY).unwrap();
