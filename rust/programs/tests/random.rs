@@ -78,12 +78,12 @@ fn setting(name: &str, otherwise: u64) -> u64 {
 fn random_lines() {
     let seed = setting("PROGRAMS_SEED", 20_240_117);
     let lines = setting("PROGRAMS_LINES", 200_000);
-    let mut lines = Lines(Rng(seed.wrapping_mul(0x9e37_79b9_7f4a_7c15) | 1));
+    let mut drawn = Lines(Rng(seed.wrapping_mul(0x9e37_79b9_7f4a_7c15) | 1));
     let mut input = String::from(
         "(format (parts 1) (page 64) (pages 2) (kept 3) (bits 64) (hashes 2) (list 3))\n",
     );
     for _ in 0..lines {
-        writeln!(input, "{}", lines.line()).unwrap();
+        writeln!(input, "{}", drawn.line()).unwrap();
     }
     let printed = run(input.as_bytes());
     let expected = answer_text(input.as_bytes());
