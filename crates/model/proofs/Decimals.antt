@@ -3,7 +3,7 @@ use mathlib.Core.Path.{_≡_, sym, _∙_, ap}
 use mathlib.Core.Logic.{⊎-elim}
 use mathlib.Core.List.{List, [], _∷_, _++_}
 use Prim.Native.Nat.{ℕ, zero, suc, _+_, _/_, _%_, _^_, _≤_, _<_}
-use native.Mathlib.Nat.{div-lt-iff-lt-mul, pow-suc}
+use native.Mathlib.Nat.{div-one, div-lt-iff-lt-mul, le-div-iff-mul-le, div-div-eq-div-mul, pow-zero, pow-suc, pow-succ', one-le-pow}
 use native.Mathlib.Omega.{arith}
 use lib.ListN.{length, length-append}
 use borrow.Author.Tests.{lt-ltb, le-ltb}
@@ -56,15 +56,10 @@ length-one n l = ap length (figures-one 19 n l)
 pub length-more : (n : ℕ) → 10 ≤ n → n < 10 ^ 20 → length (decimal n) ≡ length (decimal (n / 10)) + 1
 length-more n g l = simp length-append at (ap length (decimal-more n l g))
 
--- and four behind those of n / 10000
-pub length-four : (n : ℕ) → 10000 ≤ n → n < 10 ^ 20 → length (decimal n) ≡ length (decimal (n / 10000)) + 4
-length-four n g l =
-    let same : n / 10 / 10 / 10 / 10 ≡ n / 10000 = omega arith in
-    omega (
-      arith,
-      length-more n (omega arith) l,
-      length-more (n / 10) (omega arith) (omega arith),
-      length-more (n / 10 / 10) (omega arith) (omega arith),
-      length-more (n / 10 / 10 / 10) (omega arith) (omega arith),
-      ap (λ (m : ℕ). length (decimal m)) same,
-    )
+-- and k behind those of n / 10 ^ k
+pub length-by : (k n : ℕ) → 10 ^ k ≤ n → n < 10 ^ 20 → length (decimal n) ≡ length (decimal (n / 10 ^ k)) + k
+length-by zero n g l = rw (pow-zero, div-one) (omega arith)
+length-by (suc k) n g l =
+    let less : 10 ^ k ≤ n / 10 = le-div-iff-mul-le {k = 10} (omega arith) .1 (rw (pow-suc 10 k) at g) in
+    let same : n / 10 / 10 ^ k ≡ n / 10 ^ suc k = rw (pow-succ', div-div-eq-div-mul) in
+    omega (arith, length-more n (omega (arith, less, one-le-pow k 10 (omega arith))) l, length-by k (n / 10) less (omega arith), ap (λ (m : ℕ). length (decimal m)) same)

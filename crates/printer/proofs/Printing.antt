@@ -35,7 +35,7 @@ module _ {n at rest i : ℕ} {a b : List ℕ} (f : Figured n at rest i a b) wher
   pub figured-within : i ≤ at + length (decimal n)
   figured-within = omega (arith, f .place, ap length (f .whole), length-append (decimal rest) (f .figures))
 
-  -- one figure more, and the number is written
+  -- one figure more
   pub figured-more : 10 ≤ rest → rest < 10 ^ 20 → Figured n at (rest / 10) (i - 1) a (set b (i - 1) (48 + rest % 10))
   figured-more g l =
       let more = length-more rest g l in
@@ -47,10 +47,24 @@ module _ {n at rest i : ℕ} {a b : List ℕ} (f : Figured n at rest i a b) wher
         holds = rw (f .holds, set-sets (f .figures) a i (i - 1) (48 + rest % 10) (omega (arith, f .place))) (ap (λ (j : ℕ). sets (set a (i - 1) (48 + rest % 10)) j (f .figures)) next);
       }
 
-  pub figured-all : rest < 10 → set b at (48 + rest) ≡ sets a at (decimal n)
-  figured-all l =
+  -- the last figure, and the number is written
+  pub figured-one : rest < 10 → set b at (48 + rest) ≡ sets a at (decimal n)
+  figured-one l =
       let next : i ≡ suc at = omega (arith, f .place, length-one rest l) in
       rw (f .whole, f .holds, figures-one 19 rest l, set-sets (f .figures) a i at (48 + rest) (omega arith)) (ap (λ (j : ℕ). sets (set a at (48 + rest)) j (f .figures)) next)
+
+-- two figures more
+pub figured-two : {n at rest i : ℕ} {a b : List ℕ} → Figured n at rest i a b → 100 ≤ rest → rest < 10 ^ 20 → Figured n at (rest / 100) (i - 2) a (set (set b (i - 1) (48 + rest % 10)) (i - 2) (48 + rest / 10 % 10))
+figured-two {n} {at} {rest} {i} {a} {b} f g l =
+    let fewer : rest / 10 / 10 ≡ rest / 100 = omega arith in
+    let place : i - 1 - 1 ≡ i - 2 = omega arith in
+    rw (fewer, place) at (figured-more (figured-more f (omega arith) l) (omega arith) (omega arith))
+
+-- the last two, and the number is written
+pub figured-both : {n at rest i : ℕ} {a b : List ℕ} → Figured n at rest i a b → 10 ≤ rest → rest < 100 → set (set b (at + 1) (48 + rest % 10)) at (48 + rest / 10) ≡ sets a at (decimal n)
+figured-both {n} {at} {rest} {i} {a} {b} f g l =
+    let place : i - 1 ≡ at + 1 = omega (arith, f .place, length-more rest g (omega arith), length-one (rest / 10) (omega arith)) in
+    rw place at (figured-one (figured-more f g (omega arith)) (omega arith))
 
 -- eight bytes stand around the figures of both numbers
 pub length-put-text : (k v : ℕ) → length (putText k v) ≡ 8 + length (decimal k) + length (decimal v)

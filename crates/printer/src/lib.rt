@@ -24,24 +24,27 @@ fn write_text(out: &mut [u8], at: usize, bytes: &[u8]) -> usize
     at + i
 }
 
-// How many figures n has: four more than n / 10000.
+// How many figures n has: eight more than n / 100000000, and two more than n / 100.
 fn decimal_length(n: u64) -> usize
     ensures { λ r. ⌜ r ≡ length (decimal n) ⌝ }
 {
     let mut length: usize = 1;
     let mut rest = n;
-    while 10000 <= rest {
-        rest = rest / 10000;
-        length += 4;
+    while 100000000 <= rest {
+        rest = rest / 100000000;
+        length += 8;
     }
-    while 10 <= rest {
-        rest = rest / 10;
-        length += 1;
+    while 100 <= rest {
+        rest = rest / 100;
+        length += 2;
+    }
+    if 10 <= rest {
+        return length + 1;
     }
     length
 }
 
-// The last figure first: all others are those of n / 10.
+// The last two figures first: all others are those of n / 100.
 fn write_decimal(out: &mut [u8], at: usize, n: u64) -> usize
     requires { ⌜ at + length (decimal n) ≤ length (now out) ⌝ }
     ensures { λ r. ⌜ Puts (decimal n) at (now (out .entry)) r (now (out .exit)) ⌝ }
@@ -49,10 +52,16 @@ fn write_decimal(out: &mut [u8], at: usize, n: u64) -> usize
     let end = at + decimal_length(n);
     let mut i = end;
     let mut rest = n;
-    while 10 <= rest {
-        i -= 1;
-        out[i] = b'0' + (rest % 10) as u8;
-        rest = rest / 10;
+    while 100 <= rest {
+        out[i - 1] = b'0' + (rest % 10) as u8;
+        out[i - 2] = b'0' + (rest / 10 % 10) as u8;
+        rest = rest / 100;
+        i -= 2;
+    }
+    if 10 <= rest {
+        out[at + 1] = b'0' + (rest % 10) as u8;
+        out[at] = b'0' + (rest / 10) as u8;
+        return end;
     }
     out[at] = b'0' + rest as u8;
     end
