@@ -24,7 +24,7 @@ fn write_text(out: &mut [u8], at: usize, bytes: &[u8]) -> usize
     at + i
 }
 
-// How many figures n has: eight more than n / 100000000, and two more than n / 100.
+// How many figures n has: eight more than n / 100000000 has, or two more than n / 100, as long as that is not 0.
 fn decimal_length(n: u64) -> usize
     ensures { λ r. ⌜ r ≡ length (decimal n) ⌝ }
 {
