@@ -36,7 +36,7 @@ extern "C" {
  * The answer of every call. A field that the table leaves out is 0.
  *
  *   call                       status       number    reads  batch     value
- *   mx_format, mx_del          MX_DONE
+ *   mx_format, mx_del, mx_drop MX_DONE
  *   mx_put                     MX_DONE      pages written: 0, or `pages` where
  *                                           it flushed its key's partition
  *   mx_flush                   MX_DONE      pages written: `pages`
@@ -65,18 +65,18 @@ enum { MX_DONE = 0, MX_FOUND = 1, MX_NONE = 2, MX_REFUSED = 3 };
  * when its condition holds and no earlier one of its call does, and at no other
  * time. mx_format checks 1, 2, 3. The others check 2 (below 32 bytes), 11,
  * 2 (the need), 3, 4, 12 and then their own: mx_put 16, 13; mx_get 13 as it
- * reads; mx_del 14; mx_flush 15, 16, 13; mx_view 17, 13; mx_text 13, 22. Only
- * mx_put checks 21, behind 3 and before 12. Where mx_put, mx_del or mx_flush
- * would end with a total that cannot be, 12 comes last. Only 13 tells reads
- * above 0, and not that of mx_text.
+ * reads; mx_del 14; mx_flush 15, 16, 13; mx_view 17, 13; mx_text 13, 22;
+ * mx_drop 23, 13. Only mx_put checks 21, behind 3 and before 12. Where mx_put,
+ * mx_del, mx_flush or mx_drop would end with a total that cannot be, 12 comes
+ * last. Only 13 tells reads above 0, and not that of mx_text.
  */
 enum {
     /* from the arguments */
     MX_REFUSED_GEOMETRY = 1,     /* mx_format: a number outside the table of mx_format */
     MX_REFUSED_SHORT_MEMORY = 2, /* all: memory is shorter than 32 bytes, or than the need */
     MX_REFUSED_SHORT_FLASH = 3,  /* all: flash is shorter than the need */
-    MX_REFUSED_OUT_OF_RANGE = 4, /* mx_flush, mx_view, mx_count, mx_text: partition not below 2^s; mx_view:
-                                    page not below `pages` */
+    MX_REFUSED_OUT_OF_RANGE = 4, /* mx_flush, mx_view, mx_count, mx_text, mx_drop: partition not below 2^s;
+                                    mx_view: page not below `pages` */
     MX_REFUSED_NO_POSITION = 21, /* mx_put: the value is 0, where the sound store has nothing */
     MX_REFUSED_SHORT_TEXT = 22,  /* mx_text: the text area is shorter than the text */
 
@@ -85,17 +85,20 @@ enum {
                                       was never formatted, or is damaged */
     MX_REFUSED_OVERFULL = 12,      /* all but mx_format: damage: the partition lists more keys than it has
                                       places for, its total is above (kept + 1) * pages * (page / 16 - 1),
-                                      or a buffer page that the call reads counts more entries than fit
-                                      (mx_text reads them all);
-                                      mx_put, mx_del, mx_flush: the total would end above that, or below 0 */
-    MX_REFUSED_BATCH_PAGE = 13,    /* mx_get, mx_view, mx_text, and mx_put and mx_flush where a batch goes:
-                                      damage: a page read from flash is not the one expected there. `reads`
-                                      counts it, but is 0 for mx_text */
-    MX_REFUSED_LIST_FULL = 14,     /* mx_del: the key has to be listed and the list is full. Flushes of the
-                                      partition free places */
+                                      more batches are live than `kept` or than were flushed, or a buffer
+                                      page that the call reads counts more entries than fit (mx_text reads
+                                      them all);
+                                      mx_put, mx_del, mx_flush, mx_drop: the total would end above that, or
+                                      below 0 */
+    MX_REFUSED_BATCH_PAGE = 13,    /* mx_get, mx_view, mx_text, mx_drop, and mx_put and mx_flush where a batch
+                                      is pushed out: damage: a page read from flash is not the one expected
+                                      there. `reads` counts it, but is 0 for mx_text */
+    MX_REFUSED_LIST_FULL = 14,     /* mx_del: the key has to be listed and the list is full. Flushes and
+                                      drops of the partition free places */
     MX_REFUSED_BUFFER_EMPTY = 15,  /* mx_flush: there is nothing to flush */
     MX_REFUSED_NUMBERS_SPENT = 16, /* mx_put, mx_flush: a flush is due, and the partition has had 4294967295 */
-    MX_REFUSED_NOT_LIVE = 17       /* mx_view: the flush number is neither 0 nor that of a live batch */
+    MX_REFUSED_NOT_LIVE = 17,      /* mx_view: the flush number is neither 0 nor that of a live batch */
+    MX_REFUSED_NO_BATCH = 23       /* mx_drop: the partition has no live batch */
 };
 
 /*
@@ -120,7 +123,7 @@ enum {
  *   page     bytes in a page, with page / 16 - 1      powers of two, 64 to 4096
  *            entries
  *   pages    pages in a batch                         powers of two, 1 to 64
- *   kept     batches kept per partition               1 to 32
+ *   kept     most batches kept per partition          1 to 32
  *   bits     bits in a batch's filter                 powers of two, 64 to 65536
  *   hashes   bits set per key                         1 to 8
  *   list     places for deleted keys per partition    1 to 1024
@@ -136,6 +139,11 @@ enum {
  * tells so: mx_count would be wrong, and calls that would end with a total below
  * 0 are refused with 12.
  *
+ * So has a table that was filled while partitions had no number of live batches:
+ * that number is 0 where it should not be, and nothing in its bytes tells so
+ * either. mx_get finds no key of its batches, and mx_count goes on counting their
+ * entries, so that later puts may be refused with 12.
+ *
  * Answers MX_DONE, or refuses with 1, 2 or 3.
  */
 mx_answer mx_format(uint8_t *memory, size_t memory_len, const uint8_t *flash, size_t flash_len,
@@ -145,11 +153,11 @@ mx_answer mx_format(uint8_t *memory, size_t memory_len, const uint8_t *flash, si
 /*
  * Gives the key the value. Where the key is new to its buffer page and that
  * page is full, its partition is flushed first: the buffer becomes a batch in
- * flash. Where `kept` batches are live already the oldest one goes, and with it
- * its keys that were not put again since; the heads of its pages are read first,
- * for the entries that leave the total. Every key is allowed, and every value
- * but 0: the sound store has nothing at position 0, and from mx_format on no
- * mx_get shows it.
+ * flash. Where `kept` batches are live already the oldest one is pushed out, and
+ * with it its keys that were not put again since; the heads of its pages are read
+ * first, for the entries that leave the total. Every key is allowed, and every
+ * value but 0: the sound store has nothing at position 0, and from mx_format on
+ * no mx_get shows it.
  *
  * Answers MX_DONE with the pages written, or refuses with 2, 3, 11, 12, 13, 16
  * or 21.
@@ -160,7 +168,9 @@ mx_answer mx_put(uint8_t *memory, size_t memory_len, uint8_t *flash, size_t flas
 /*
  * Looks the key up: in the list of deleted keys, in the buffer, then in the
  * live batches whose filter passes, youngest first, of which it reads one page
- * each until it finds the key.
+ * each until it finds the key. A key that was put is found until it is deleted,
+ * or until the batch that it went to is pushed out by a flush or dropped by
+ * mx_drop.
  *
  * Answers MX_FOUND with the value, the reads and where it was, or MX_NONE with
  * the reads, or refuses with 2, 3, 11, 12 or 13.
@@ -171,8 +181,8 @@ mx_answer mx_get(const uint8_t *memory, size_t memory_len, const uint8_t *flash,
 /*
  * Deletes the key: it is found no more until it is put again. Where a live
  * batch may hold it, it takes a place in its partition's list of deleted keys
- * until that batch is gone. A key that is not there may be deleted too. Reads
- * no flash.
+ * until that batch is pushed out or dropped. A key that is not there may be
+ * deleted too. Reads no flash.
  *
  * Answers MX_DONE with 0 pages, or refuses with 2, 3, 11, 12 or 14.
  */
@@ -180,8 +190,8 @@ mx_answer mx_del(uint8_t *memory, size_t memory_len, const uint8_t *flash, size_
 
 /*
  * Flushes a partition, which is the top s bits of its keys: its buffer becomes
- * a batch in flash. Where the oldest batch goes for it, the heads of its pages
- * are read first, as in mx_put.
+ * a batch in flash. Where it pushes the oldest batch out, the heads of that one's
+ * pages are read first, as in mx_put.
  *
  * Answers MX_DONE with the pages written, or refuses with 2, 3, 4, 11, 12, 13,
  * 15 or 16.
@@ -234,6 +244,18 @@ mx_answer mx_count(const uint8_t *memory, size_t memory_len, const uint8_t *flas
  */
 mx_answer mx_text(const uint8_t *memory, size_t memory_len, const uint8_t *flash, size_t flash_len,
                   uint32_t partition, uint8_t *text, size_t text_len);
+
+/*
+ * Drops a partition's oldest live batch: its keys that were not put again since
+ * are found no more, its entries leave the total, and the keys that were listed
+ * as deleted for it leave the list. As in mx_put, the heads of its pages are read
+ * first. Flash and filters stay as they are; the batch's place in flash is
+ * written over when a later flush comes to it.
+ *
+ * Answers MX_DONE with 0 pages, or refuses with 2, 3, 4, 11, 12, 13 or 23.
+ */
+mx_answer mx_drop(uint8_t *memory, size_t memory_len, const uint8_t *flash, size_t flash_len,
+                  uint32_t partition);
 
 #ifdef __cplusplus
 }

@@ -13,7 +13,7 @@ use Rattle.model.specs.Search.{isSome}
 use Rattle.model.specs.Keys.{partitionOf, pageOf}
 use Rattle.model.specs.Records.{keyAt}
 use Rattle.model.specs.Page.{searched, expected}
-use Rattle.model.specs.Partition.{headOf, flushesOf, bufferOf, live, isLive, batchPasses, passingFrom}
+use Rattle.model.specs.Partition.{headOf, flushesOf, bufferOf, liveOf, isLive, batchPasses, passingFrom}
 use Rattle.model.specs.Batch.{batchPage}
 use Rattle.model.specs.Answers.{Place, Answer, done, found, absent, shown, refused, buffer, batch}
 use Rattle.model.specs.Get.{hitIn, readThrough}
@@ -105,26 +105,26 @@ found-here : (n : ℕ) (o : Option ℕ) (page : List ℕ) (reads : ℕ) (rest : 
 found-here n none page reads rest e = absurd (false≢true e)
 found-here n (some i) page reads rest e = eq-eqb n n refl
 
-module _ (g : Geometry) (t : ℕ) (p f : List ℕ) (r : Readable g t p f) (n : ℕ) (alive : isLive g (headOf p) n ≡ true) (k : ℕ) (own : partitionOf g k ≡ t) (holds : isSome (searched k (batchPage g t f n (pageOf g k))) ≡ true) where
+module _ (g : Geometry) (t : ℕ) (p f : List ℕ) (r : Readable g t p f) (n : ℕ) (alive : isLive (headOf p) n ≡ true) (k : ℕ) (own : partitionOf g k ≡ t) (holds : isSome (searched k (batchPage g t f n (pageOf g k))) ≡ true) where
   from-own : (more reads : ℕ) → 0 < more → isFoundIn (batch n) (walk g k p f more n reads) ≡ batchPasses g k p n
   from-own more reads l =
-      let first = live-bounds g (headOf p) n alive .0 in
+      let first = live-bounds (headOf p) n alive .0 in
       either (batchPasses g k p n)
       (λ h. rw (pass-take g k p more n l h, read-batch g k f n (passingFrom g k p (more - 1) (n - 1)) reads, own, batch-expected g t p f r n (pageOf g k) alive (page-of-lt g (r .whole .fine) k), h) (found-here n (searched k (batchPage g t f n (pageOf g k))) (batchPage g t f n (pageOf g k)) (reads + 1) (walk g k p f (more - 1) (n - 1) (reads + 1)) holds))
       (λ h. rw (pass-skip g k p more n l h, h) (elsewhere g k p f n (more - 1) (n - 1) reads (λ i j e. omega (arith, first, e))))
 
-  pub asked : isFoundIn (batch n) (soughtAmong g (live g (headOf p)) k p f) ≡ isAbsent (soughtAmong g (flushesOf p - n) k p f) && batchPasses g k p n
+  pub asked : isFoundIn (batch n) (soughtAmong g (liveOf p) k p f) ≡ isAbsent (soughtAmong g (flushesOf p - n) k p f) && batchPasses g k p n
   asked =
-      let b = live-bounds g (headOf p) n alive in
-      let e : live g (headOf p) ≡ flushesOf p - n + (live g (headOf p) - (flushesOf p - n)) = omega (arith, b) in
+      let b = live-bounds (headOf p) n alive in
+      let e : liveOf p ≡ flushesOf p - n + (liveOf p - (flushesOf p - n)) = omega (arith, b) in
       let m : flushesOf p - (flushesOf p - n) ≡ n = omega (arith, b) in
-      let more : 0 < live g (headOf p) - (flushesOf p - n) = omega (arith, b) in
-      let rest = walk g k p f (live g (headOf p) - (flushesOf p - n)) (flushesOf p - (flushesOf p - n)) in
-      behind-buffer n (batchPasses g k p n) (searched k (bufferOf g p (pageOf g k))) (bufferOf g p (pageOf g k)) (walk g k p f (live g (headOf p)) (flushesOf p) 0) (walk g k p f (flushesOf p - n) (flushesOf p) 0)
+      let more : 0 < liveOf p - (flushesOf p - n) = omega (arith, b) in
+      let rest = walk g k p f (liveOf p - (flushesOf p - n)) (flushesOf p - (flushesOf p - n)) in
+      behind-buffer n (batchPasses g k p n) (searched k (bufferOf g p (pageOf g k))) (bufferOf g p (pageOf g k)) (walk g k p f (liveOf p) (flushesOf p) 0) (walk g k p f (flushesOf p - n) (flushesOf p) 0)
       (ap (λ (x : ℕ). isFoundIn (batch n) (walk g k p f x (flushesOf p) 0)) e
-      ∙ ap (isFoundIn (batch n)) (read-on g k p f (flushesOf p - n) (live g (headOf p) - (flushesOf p - n)) (flushesOf p) 0)
+      ∙ ap (isFoundIn (batch n)) (read-on g k p f (flushesOf p - n) (liveOf p - (flushesOf p - n)) (flushesOf p) 0)
       ∙ behind-younger n (batchPasses g k p n) (walk g k p f (flushesOf p - n) (flushesOf p) 0) rest (elsewhere g k p f n (flushesOf p - n) (flushesOf p) 0 (λ i j h. omega (arith, b, h)))
-      (λ reads. rw m (from-own (live g (headOf p) - (flushesOf p - n)) reads more)))
+      (λ reads. rw m (from-own (liveOf p - (flushesOf p - n)) reads more)))
 
 -- ---- the younger batches one by one, from the youngest on: what those down to `next` answer after some reads
 pub record Asking (g : Geometry) (k : ℕ) (p f : List ℕ) (n next : ℕ) : Type 0 where

@@ -6,7 +6,7 @@ ghost use Rattle.model.specs.Search.{isSome};
 ghost use Rattle.model.specs.Keys.{partitionOf, pageOf, mixed};
 ghost use Rattle.model.specs.Records.{keyAt};
 ghost use Rattle.model.specs.Page.{searched};
-ghost use Rattle.model.specs.Partition.{headOf, flushesOf, live, isLive, batchPasses};
+ghost use Rattle.model.specs.Partition.{headOf, flushesOf, liveOf, isLive, batchPasses};
 ghost use Rattle.model.specs.Batch.{batchPage};
 ghost use Rattle.model.specs.Answers.{batch};
 ghost use Rattle.model.specs.PartitionText.{isFoundIn, answersIn};
@@ -23,7 +23,7 @@ use sources::Spot;
 // Has batch n the key, by its filter and then by its page? x is the key, mixed.
 fn has_key(part: &[u8], flash: &[u8], g: Geometry, t: u32, n: u32, key: u64, x: u64) -> bool
     requires { ⌜ Readable g t (now part) (now flash) ⌝ }
-    requires { ⌜ isLive g (headOf (now part)) n ≡ true ⌝ }
+    requires { ⌜ isLive (headOf (now part)) n ≡ true ⌝ }
     requires { ⌜ x ≡ mixed key ⌝ }
     ensures { λ r. ⌜ r ≡ batchPasses g key (now (part .entry)) n && isSome (searched key (batchPage g t (now (flash .entry)) n (pageOf g key))) ⌝ }
 {
@@ -42,7 +42,7 @@ fn has_key(part: &[u8], flash: &[u8], g: Geometry, t: u32, n: u32, key: u64, x: 
 // Does a batch younger than batch n answer a get of the key? A get's own search is not asked: with a second caller it would be compiled as a call.
 fn is_superseded(part: &[u8], flash: &[u8], g: Geometry, t: u32, n: u32, key: u64) -> bool
     requires { ⌜ Readable g t (now part) (now flash) ⌝ }
-    requires { ⌜ isLive g (headOf (now part)) n ≡ true ⌝ }
+    requires { ⌜ isLive (headOf (now part)) n ≡ true ⌝ }
     requires { ⌜ partitionOf g key ≡ t ⌝ }
     ensures { λ r. ⌜ r ≡ not (isAbsent (readAmong g (flushesOf (now (part .entry)) - n) key (now (part .entry)) (now (flash .entry)))) ⌝ }
 {
@@ -60,10 +60,10 @@ fn is_superseded(part: &[u8], flash: &[u8], g: Geometry, t: u32, n: u32, key: u6
 // Batch n holds the key, which is not listed: is it the batch that a get answers from? Neither the buffer nor a younger batch does, and its own filter passes.
 fn is_batch_asked(part: &[u8], flash: &[u8], g: Geometry, t: u32, n: u32, key: u64) -> bool
     requires { ⌜ Readable g t (now part) (now flash) ⌝ }
-    requires { ⌜ isLive g (headOf (now part)) n ≡ true ⌝ }
+    requires { ⌜ isLive (headOf (now part)) n ≡ true ⌝ }
     requires { ⌜ partitionOf g key ≡ t ⌝ }
     requires { ⌜ isSome (searched key (batchPage g t (now flash) n (pageOf g key))) ≡ true ⌝ }
-    ensures { λ r. ⌜ r ≡ isFoundIn (batch n) (soughtAmong g (live g (headOf (now (part .entry)))) key (now (part .entry)) (now (flash .entry))) ⌝ }
+    ensures { λ r. ⌜ r ≡ isFoundIn (batch n) (soughtAmong g (liveOf (now (part .entry))) key (now (part .entry)) (now (flash .entry))) ⌝ }
 {
     match buffer::find(part, g, keys::page_of(g, key), key) {
         Found::At(_) => false,

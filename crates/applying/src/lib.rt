@@ -20,6 +20,7 @@ pub fn perform(memory: &mut [u8], flash: &mut [u8], line: &[u8], out: &mut [u8],
         Form::Del(key) => write_written(out, at, index::del(memory, flash, key)),
         Form::Flush(partition) => write_written(out, at, index::flush(memory, flash, partition)),
         Form::Count(partition) => write_written(out, at, index::count(memory, flash, partition)),
+        Form::Drop(partition) => write_written(out, at, index::drop(memory, flash, partition)),
         Form::Bad => write_bad(out, at),
     }
 }

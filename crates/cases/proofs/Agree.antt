@@ -1,18 +1,22 @@
 -- The bench cases hold, by computation.
 use mathlib.Core.Path.{refl}
 use Rattle.model.specs.Text.{figures, past, leading, numberFrom, figure}
-use Rattle.model.specs.Session.{putLine, getLine, delLine, flushLine, countLine, formatLine, callOf, answerText, linePrints, lineLeaves, linesOf, zeroArea, linesPrint}
+use Rattle.model.specs.Session.{putLine, getLine, delLine, flushLine, countLine, dropLine, formatLine, callOf, answerText, linePrints, lineLeaves, linesOf, zeroArea, linesPrint}
 use Rattle.model.proofs.Computing.{computing}
-use Rattle.cases.specs.Table.{texts, writes, counts, rows, Agree, allFigures, session, formatting, changed, twoPut, written, writing, texted}
+use Rattle.cases.specs.Table.{drops, texts, writes, counts, rows, Agree, allFigures, session, formatting, changed, twoPut, written, writing, texted}
 
 -- what a row opens: the calls, the session's text and the table's own words
 unfoldable opened : Type 0
-unfolding computing Agree allFigures session formatting changed twoPut written writing texted figures past leading numberFrom figure putLine getLine delLine flushLine countLine formatLine callOf answerText linePrints lineLeaves linesOf zeroArea linesPrint
+unfolding computing Agree allFigures session formatting changed twoPut written writing texted figures past leading numberFrom figure putLine getLine delLine flushLine countLine dropLine formatLine callOf answerText linePrints lineLeaves linesOf zeroArea linesPrint
 opened = Unit {0}
+
+drops-agree : Agree drops
+unfolding opened drops
+drops-agree = (refl, (refl, (refl, (refl, (refl, (refl, (refl, (refl, tt))))))))
 
 texts-agree : Agree texts
 unfolding opened texts
-texts-agree = (refl, (refl, (refl, (refl, (refl, (refl, tt))))))
+texts-agree = (refl, (refl, (refl, (refl, (refl, (refl, drops-agree))))))
 
 writes-agree : Agree writes
 unfolding opened writes

@@ -4,7 +4,8 @@ use Prim.Native.String.{String}
 use mathlib.Core.Path.{_≡_}
 use mathlib.Core.List.{List, [], _∷_, _++_, map}
 use mathlib.Core.Option.{Option, none, some}
-use lib.ListN.{take, drop}
+use lib.ListN as lists
+use lib.ListN.{take}
 use Rattle.model.specs.declared.Geometry.{Geometry}
 use Rattle.model.specs.Bytes.{write, zeros}
 use Rattle.model.specs.Geometry.{geometry, G, capacity, memoryNeed, flashNeed}
@@ -15,7 +16,7 @@ use Rattle.model.specs.Flush.{pageChecks, withBatchPage}
 use Rattle.model.specs.Answers.{Areas, Refusal, Answer, done, found, absent, shown, refused}
 use Rattle.model.specs.Text.{text}
 use Rattle.model.specs.Session.{linesOf, programAreas, linesPrint}
-use Rattle.model.specs.Calls.{Call, format, put, get, del, flush, count, partitionIn, reply, textLeft, run, replies}
+use Rattle.model.specs.Calls.{Call, format, put, get, del, flush, view, count, drop, partitionIn, reply, textLeft, run, replies}
 
 abbrev pub largest : Geometry
 largest = geometry 8 4096 64 32 65536 8 1024
@@ -84,9 +85,12 @@ changed memory flash cs c =
 abbrev pub puttingZero : (List ℕ → List ℕ) → ℕ → List ℕ
 puttingZero memory f = changed memory (take f) [] (put 1 0)
 
--- the same areas, but with this total in the head
+-- the same areas, but with this total in the head, and with this live number
 abbrev pub withTotal : ℕ → List Call → Call → List ℕ
 withTotal n = changed (write 4 n 40) (λ f. f)
+
+abbrev pub withLive : ℕ → List Call → Call → List ℕ
+withLive n = changed (write 4 n 44) (λ f. f)
 
 -- memory's partition 0 after a format with G and two puts, changed so
 unfoldable pub twoPut : (List ℕ → List ℕ) → List ℕ
@@ -94,7 +98,7 @@ twoPut memory = partition G 0 (memory (run (areas 144 128) (format G ∷ put 1 1
 
 -- the slots' pages after its page is written, where all flash bytes were 7: the first bytes of each
 unfoldable pub written : (List ℕ → List ℕ) → List (List ℕ)
-written memory = let f = withBatchPage G 0 (twoPut memory) 0 (sevens 128) in take 20 f ∷ take 20 (drop 64 f) ∷ []
+written memory = let f = withBatchPage G 0 (twoPut memory) 0 (sevens 128) in take 20 f ∷ take 20 (lists.drop 64 f) ∷ []
 
 abbrev pub refusal : Option Refusal → List ℕ
 refusal none = ok 0
@@ -147,6 +151,20 @@ batches = put 1 10 ∷ put 2 20 ∷ flush 0 ∷ put 3 30 ∷ flush 0 ∷ []
 abbrev pub filled : List Call
 filled = batches ++ (put 4 40 ∷ put 5 50 ∷ put 6 60 ∷ [])
 
+-- batch 1 dropped, and the form of drop
+abbrev pub lowered : List Call
+lowered = batches ++ (drop 0 ∷ [])
+
+abbrev pub dropping : String
+dropping = "(format (parts 0) (page 64) (pages 1) (kept 2) (bits 64) (hashes 3) (list 1))\n(drop 0)\n(put 1 10)\n(flush 0)\n(get 1)\n(drop 0)\n(get 1)\n(drop 1)\n(drop 00)\n"
+
+abbrev pub dropped : String
+dropped = "(ok 0)\n(refused 23 0)\n(ok 0)\n(ok 1)\n(found 10 1)\n(ok 0)\n(none 0)\n(refused 4 0)\n(bad)\n"
+
+-- how many keys are listed after a format with G and these calls
+abbrev pub listedAfter : List Call → ℕ
+listedAfter cs = listedOf (partitionIn (run (areas 144 128) (format G ∷ cs)) 0)
+
 pub record Row : Type 0 where
   pub given : List (List ℕ)
   pub paper : List (List ℕ)
@@ -168,6 +186,31 @@ untouched = sevens 20
 abbrev pub twice : List Call
 twice = put 1 10 ∷ put 2 20 ∷ flush 0 ∷ put 3 30 ∷ put 1 11 ∷ []
 
+-- job 6
+unfoldable pub drops : List Row
+drops =
+    -- a drop takes batch 1 with its two entries, then batch 2, and then there is none
+    answers (session (batches ++ (drop 0 ∷ get 1 ∷ get 3 ∷ count 0 ∷ drop 0 ∷ get 3 ∷ count 0 ∷ drop 0 ∷ [])))
+    (ok 0 ∷ ok 0 ∷ ok 0 ∷ ok 1 ∷ ok 0 ∷ ok 1 ∷ ok 0 ∷ noneWith 0 ∷ foundWith 30 1 ∷ ok 1 ∷ ok 0 ∷ noneWith 0 ∷ ok 0 ∷ refusedWith 23 0 ∷ [])
+    -- in a session of its own
+    ∷ answers (linesPrint (linesOf (text dropping)) (areas 144 128) ∷ []) (text dropped ∷ [])
+    -- the next flush pushes nothing out, reads no head, and lets batch 2 live on; the one after it pushes batch 2 out
+    ∷ answers (session (lowered ++ (put 4 40 ∷ flush 0 ∷ get 3 ∷ count 0 ∷ put 5 50 ∷ flush 0 ∷ get 3 ∷ count 0 ∷ [])))
+    (ok 0 ∷ ok 0 ∷ ok 0 ∷ ok 1 ∷ ok 0 ∷ ok 1 ∷ ok 0 ∷ ok 0 ∷ ok 1 ∷ foundWith 30 1 ∷ ok 2 ∷ ok 0 ∷ ok 1 ∷ noneWith 0 ∷ ok 2 ∷ [])
+    ∷ answers (changed (λ m. m) (write 2 4 0) (lowered ++ (put 4 40 ∷ [])) (flush 0) ∷ changed (λ m. m) (write 2 4 0) (batches ++ (put 4 40 ∷ [])) (flush 0) ∷ []) (ok 1 ∷ refusedWith 13 1 ∷ [])
+    -- a list entry stamped with batch 1 leaves with it, and one stamped with batch 2 stays; what only batch 1 held is not listed any more
+    ∷ numbers (listedAfter (batches ++ (del 1 ∷ [])) ∷ listedAfter (batches ++ (del 1 ∷ drop 0 ∷ [])) ∷ listedAfter (batches ++ (del 3 ∷ drop 0 ∷ [])) ∷ listedAfter (lowered ++ (del 1 ∷ [])) ∷ [])
+    (1 ∷ 0 ∷ 1 ∷ 0 ∷ [])
+    -- the dropped batch is not shown, and not in the text
+    ∷ answers (changed (λ m. m) (λ f. f) lowered (view 0 0 1) ∷ texted (λ m. m) (λ f. f) lowered 0 11) (refusedWith 17 0 ∷ ok 11 ∷ text "(put 3 30)\n" ∷ [])
+    -- 12: a live number above K, and one above F, before 23
+    ∷ answers (withLive 3 (batches ++ (put 4 40 ∷ flush 0 ∷ [])) (drop 0) ∷ withLive 3 batches (get 1) ∷ withLive 3 batches (put 4 40) ∷ withLive 3 batches (del 1) ∷ withLive 3 (batches ++ (put 4 40 ∷ [])) (flush 0) ∷ withLive 3 batches (view 0 0 1) ∷ withLive 3 batches (count 0) ∷ withLive 3 batches (Call.text 0 99) ∷ withLive 1 [] (drop 0) ∷ changed (write 4 2 36) (λ f. f) [] (drop 0) ∷ [])
+    (refusedWith 12 0 ∷ refusedWith 12 0 ∷ refusedWith 12 0 ∷ refusedWith 12 0 ∷ refusedWith 12 0 ∷ refusedWith 12 0 ∷ refusedWith 12 0 ∷ refusedWith 12 0 ∷ refusedWith 12 0 ∷ refusedWith 12 0 ∷ [])
+    -- 13 for a head of the batch that goes, and for no other page; 12 where the total does not count its two entries; a buffer page is not read
+    ∷ answers (changed (λ m. m) (write 2 4 0) batches (drop 0) ∷ changed (λ m. m) (write 2 4 64) batches (drop 0) ∷ withTotal 1 batches (drop 0) ∷ changed (write 2 4 80) (λ f. f) batches (drop 0) ∷ [])
+    (refusedWith 13 1 ∷ ok 0 ∷ refusedWith 12 0 ∷ ok 0 ∷ [])
+    ∷ []
+
 -- job 5
 unfoldable pub texts : List Row
 texts =
@@ -186,7 +229,7 @@ texts =
     -- 4; 12 for L, for the total and for a buffer page; 13 with 0 reads, for either batch
     ∷ answers (texted (λ m. m) (λ f. f) batches 1 1 ++ texted (write 4 2 36) (λ f. f) batches 0 1 ++ texted (write 4 10 40) (λ f. f) batches 0 1 ++ texted (write 2 4 80) (λ f. f) batches 0 1 ++ texted (λ m. m) (write 2 4 0) batches 0 1 ++ texted (λ m. m) (write 2 4 64) batches 0 1)
     (refusedWith 4 0 ∷ sevens 1 ∷ refusedWith 12 0 ∷ sevens 1 ∷ refusedWith 12 0 ∷ sevens 1 ∷ refusedWith 12 0 ∷ sevens 1 ∷ refusedWith 13 0 ∷ sevens 1 ∷ refusedWith 13 0 ∷ sevens 1 ∷ [])
-    ∷ []
+    ∷ drops
 
 -- job 4
 unfoldable pub writes : List Row

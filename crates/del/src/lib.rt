@@ -45,7 +45,7 @@ fn stamp_for(part: &[u8], g: Geometry, key: u64) -> Youngest
     let head = Head::read(part);
     let mut n = head.flushes;
     let mut slot = n % g.kept;
-    let mut count = head.live(g);
+    let mut count = head.live;
     while 0 < count {
         slot = geometry::slot_before(g, slot);
         if filter::passes(part, g, slot, x) {

@@ -33,17 +33,17 @@ pub fn strike(list: &mut [u8], i: usize, n: usize)
     records::remove(list, i, n, 0);
 }
 
-// The entries stamped flushes + 1 - kept leave; tells how many stay.
-pub fn expire(list: &mut [u8], n: usize, kept: u32, flushes: u32) -> usize
+// The entries stamped flushes + 1 - back leave; tells how many stay.
+pub fn expire(list: &mut [u8], n: usize, back: u32, flushes: u32) -> usize
     requires { ⌜ 16 * n ≤ length (now list) ⌝ }
-    ensures { λ r. ⌜ (now (list .exit) ≡ expired kept flushes n (now (list .entry))) × (r ≡ unexpired kept flushes n (now (list .entry))) ⌝ }
+    ensures { λ r. ⌜ (now (list .exit) ≡ expired back flushes n (now (list .entry))) × (r ≡ unexpired back flushes n (now (list .entry))) ⌝ }
 {
     let last = flushes as u64 + 1;
     let mut stay = 0;
     let mut i = 0;
     while i < n {
         let stamp = words::u32_at(list, 16 * i + 8) as u64;
-        if stamp + kept as u64 != last {
+        if stamp + back as u64 != last {
             words::move_down(list, 16 * stay, 16 * i, 16);
             stay += 1;
         }

@@ -9,7 +9,7 @@ use Rattle.model.specs.declared.Geometry.{Geometry}
 use Rattle.model.specs.Bytes.{within}
 use Rattle.model.specs.Geometry.{partitions, stride, partitionAt}
 use Rattle.model.specs.Partition.{headOf, totalled, totalOf, partition}
-use Rattle.model.specs.Batch.{dropped}
+use Rattle.model.specs.Batch.{leaving}
 use Rattle.model.specs.Answers.{done}
 use Rattle.model.specs.Flush.{flushChecks, flushed, flushIn, withBatch}
 use Rattle.model.specs.Calls.{Call, checks}
@@ -45,7 +45,7 @@ module _ (g : Geometry) (m f : List ℕ) (table : IsTable g m f) (t : ℕ) where
 
   -- ---- nothing refuses it, and so many entries leave
   module _ (below : t < partitions g) (bytes : (i : ℕ) → getD m i 0 < 256) (less : ℕ) (h : planFor g t own f ≡ Entries less) where
-    passed : (flushChecks g t own f ≡ none) × (less ≡ dropped g t own f)
+    passed : (flushChecks g t own f ≡ none) × (less ≡ leaving g t own f)
     unfolding planFor
     passed = passed-with _ _ less h
 

@@ -10,7 +10,8 @@ use Rattle.model.specs.Bytes.{within}
 use Rattle.model.specs.Geometry.{allowed, stride, partitionAt, memoryNeed}
 use Rattle.model.specs.Partition.{Head, withHead, flushesOf, listedOf, bufferOf, partition}
 use Rattle.model.specs.Format.{emptiedPages}
-use Rattle.model.specs.Flush.{withBatch, filtered, delisted, headAfter, flushed}
+use Rattle.model.specs.Batch.{delisted}
+use Rattle.model.specs.Flush.{withBatch, filtered, headAfter, flushed}
 use Rattle.model.proofs.Lengths.{length-filtered, length-delisted, length-emptiedPages, length-withHead}
 use Rattle.model.proofs.Parts.{within-same}
 use Rattle.model.proofs.PartitionsFlash.{batch-same}
@@ -20,10 +21,10 @@ use Rattle.partition.proofs.Lending.{partition-whole}
 use Rattle.partition.proofs.Changing.{changed-there, changed-fits, changed-again}
 
 abbrev pub prepared : Geometry → List ℕ → List ℕ
-prepared g p = delisted g (flushesOf p) (listedOf p) (filtered g p)
+prepared g p = delisted g (g .kept) (flushesOf p) (listedOf p) (filtered g p)
 
 pub length-prepared : (g : Geometry) (p : List ℕ) → length (prepared g p) ≡ length p
-length-prepared g p = length-delisted g _ _ _ ∙ length-filtered g p
+length-prepared g p = length-delisted g _ _ _ _ ∙ length-filtered g p
 
 pub number-after : (g : Geometry) (p : List ℕ) → headAfter g p .flushes ≡ flushesOf p + 1
 unfolding headAfter

@@ -8,7 +8,8 @@ ghost use Rattle.model.specs.Geometry.{allowed, partitions, bufferAt, stride, p
 ghost use Rattle.model.specs.Partition.{partition, flushesOf, listedOf, slot};
 ghost use Rattle.model.specs.Page.{emptied};
 ghost use Rattle.model.specs.Format.{emptiedPages};
-ghost use Rattle.model.specs.Flush.{filtered, delisted, headAfter, flushed, withBatch};
+ghost use Rattle.model.specs.Batch.{delisted};
+ghost use Rattle.model.specs.Flush.{filtered, headAfter, flushed, withBatch};
 ghost use Rattle.head.specs.Heads.{asHead};
 ghost use Rattle.partition.specs.Ready.{Whole, Flushable};
 use head::Head;
@@ -19,14 +20,14 @@ fn prepare(part: &mut [u8], g: Geometry, t: u32, j: u32) -> Head
     requires { ⌜ Whole g (now part) ⌝ }
     requires { ⌜ Flushable g t (now part) ⌝ }
     requires { ⌜ j ≡ slot g (flushesOf (now part) + 1) ⌝ }
-    ensures { λ r. ⌜ (now (part .exit) ≡ delisted g (flushesOf (now (part .entry))) (listedOf (now (part .entry))) (filtered g (now (part .entry)))) × (asHead r ≡ headAfter g (now (part .entry))) ⌝ }
+    ensures { λ r. ⌜ (now (part .exit) ≡ delisted g (g .kept) (flushesOf (now (part .entry))) (listedOf (now (part .entry))) (filtered g (now (part .entry)))) × (asHead r ≡ headAfter g (now (part .entry))) ⌝ }
 {
     let head = Head::read(part);
     let flushes = head.flushes;
     let listed = head.listed;
     filter::make(part, g, j);
-    let stay = list::expire(part, g, flushes, listed);
-    head.flushed().unlisted(listed - stay as u32)
+    let stay = list::expire(part, g, g.kept, flushes, listed);
+    head.flushed(g).unlisted(listed - stay as u32)
 }
 
 // Buffer page q of partition t is emptied.

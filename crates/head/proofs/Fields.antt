@@ -13,3 +13,6 @@ module _ {r : Head} {h : model.Head} (e : asHead r ≡ h) where
 
   pub total-is : r .total ≡ h .total
   total-is = ap (λ (x : model.Head). x .total) e
+
+  pub live-is : r .live ≡ h .live
+  live-is = ap (λ (x : model.Head). x .live) e

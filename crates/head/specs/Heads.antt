@@ -3,4 +3,4 @@ use Rattle.model.specs.Partition as model
 use Rattle.head.specs.declared.Head.{Head}
 
 abbrev pub asHead : Head → model.Head
-asHead h = record { flushes = h .flushes; listed = h .listed; total = h .total; rest = h .rest }
+asHead h = record { flushes = h .flushes; listed = h .listed; total = h .total; live = h .live }

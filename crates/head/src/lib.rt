@@ -1,20 +1,20 @@
 // A partition's head, read as one record, changed and put back.
 ghost use mathlib.Core.Bool.{true, false};
 ghost use mathlib.Core.Path.{_≡_};
-ghost use Prim.Native.Nat.{_+_, _≤_, _<_};
+ghost use Prim.Native.Nat.{_+_, _≤_, _<_, min};
 ghost use lib.ListN.{length};
-ghost use Rattle.model.specs.Partition.{headOf, flushedHead, listedHead, unlistedHead, totalledHead, withHead, totalled, totalOf, live, isLive};
+ghost use Rattle.model.specs.Partition.{headOf, flushedHead, loweredHead, listedHead, unlistedHead, totalledHead, withHead, totalled, totalOf, isLive};
 ghost use Rattle.model.specs.Refusals.{headOverfull, totalOut};
 ghost use Rattle.model.specs.Geometry.{allowed};
 ghost use Rattle.head.specs.Heads.{asHead};
 use model::Geometry;
 
-// Flushes done, listed keys, the total of the partition's entries, and 4 bytes that are carried along.
+// Flushes done, listed keys, the total of the partition's entries, and the number of its live batches.
 pub struct Head {
     pub flushes: u32,
     pub listed: u32,
     pub total: u32,
-    pub rest: u32,
+    pub live: u32,
 }
 
 impl Head {
@@ -26,16 +26,19 @@ impl Head {
             flushes: words::u32_at(part, 0),
             listed: words::u32_at(part, 4),
             total: words::u32_at(part, 8),
-            rest: words::u32_at(part, 12),
+            live: words::u32_at(part, 12),
         }
     }
 
-    // 12: does it say more listed keys, or more entries, than there is room for?
+    // 12: does it say more listed keys, more entries or more live batches than there can be?
     pub fn is_overfull(self, g: Geometry) -> bool
         requires { ⌜ allowed g ≡ true ⌝ }
         ensures { λ r. ⌜ r ≡ headOverfull g (asHead self) ⌝ }
     {
-        (g.list < self.listed) | (geometry::most_entries(g) < self.total)
+        (g.list < self.listed)
+            | (geometry::most_entries(g) < self.total)
+            | (g.kept < self.live)
+            | (self.flushes < self.live)
     }
 
     // 12: is the total below 0, or more than there is room for, with so many entries more and so many less?
@@ -52,41 +55,50 @@ impl Head {
         geometry::most_entries(g) < total - less
     }
 
-    // How many batches are live.
-    pub fn live(self, g: Geometry) -> u32
-        requires { ⌜ headOverfull g (asHead self) ≡ false ⌝ }
-        ensures { λ r. ⌜ r ≡ live g (asHead self) ⌝ }
-    {
-        if self.flushes < g.kept {
-            self.flushes
-        } else {
-            g.kept
-        }
-    }
-
     // Is batch n live?
-    pub fn is_live(self, g: Geometry, n: u32) -> bool
-        requires { ⌜ headOverfull g (asHead self) ≡ false ⌝ }
-        ensures { λ r. ⌜ r ≡ isLive g (asHead self) n ⌝ }
+    pub fn is_live(self, n: u32) -> bool
+        requires { ⌜ self .live ≤ self .flushes ⌝ }
+        ensures { λ r. ⌜ r ≡ isLive (asHead self) n ⌝ }
     {
-        let dead = self.flushes - self.live(g);
+        let dead = self.flushes - self.live;
         if n <= dead {
             return false;
         }
         n <= self.flushes
     }
 
+    // The live number after one flush more.
+    fn raised(self, g: Geometry) -> u32
+        requires { ⌜ self .live ≤ g .kept ⌝ }
+        ensures { λ r. ⌜ r ≡ min (g .kept) (self .live + 1) ⌝ }
+    {
+        if self.live == g.kept {
+            return g.kept;
+        }
+        self.live + 1
+    }
+
     // One flush more.
-    pub fn flushed(self) -> Self
+    pub fn flushed(self, g: Geometry) -> Self
         requires { ⌜ self .flushes < 4294967295 ⌝ }
-        ensures { λ r. ⌜ asHead r ≡ flushedHead (asHead self) ⌝ }
+        requires { ⌜ self .live ≤ g .kept ⌝ }
+        ensures { λ r. ⌜ asHead r ≡ flushedHead g (asHead self) ⌝ }
     {
         Self {
             flushes: self.flushes + 1,
             listed: self.listed,
             total: self.total,
-            rest: self.rest,
+            live: self.raised(g),
         }
+    }
+
+    // One live batch less.
+    pub fn lowered(mut self) -> Self
+        requires { ⌜ 1 ≤ self .live ⌝ }
+        ensures { λ r. ⌜ asHead r ≡ loweredHead (asHead self) ⌝ }
+    {
+        self.live = self.live - 1;
+        self
     }
 
     // One listed key more.
@@ -126,7 +138,7 @@ pub fn put_back(part: &mut [u8], head: Head)
     words::write_u32(part, 0, head.flushes);
     words::write_u32(part, 4, head.listed);
     words::write_u32(part, 8, head.total);
-    words::write_u32(part, 12, head.rest);
+    words::write_u32(part, 12, head.live);
 }
 
 // The partition's total, with so many entries more and so many less.

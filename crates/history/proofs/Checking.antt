@@ -1,5 +1,5 @@
--- On areas that show a table, with heads that count its entries, the checks come down to those of the arguments and of what the table holds: 4, 14, 15, 16, 17, 21, 22.
--- Refusals 2, 3, 11 and 12 do not come up, neither does the 12 that comes last, nor the 13 of a put, a flush or a text.
+-- On areas that show a table, with heads that count its entries, the checks come down to those of the arguments and of what the table holds: 4, 14, 15, 16, 17, 21, 22, 23.
+-- Refusals 2, 3, 11 and 12 do not come up, neither does the 12 that comes last, nor the 13 of a put, a flush, a drop or a text.
 use Prim.Native.Nat.{ℕ, _^_, _≤_, _<_}
 use mathlib.Core.Bool.{true, false, not, _&&_, _||_, and-false}
 use mathlib.Core.Path.{_≡_, _∙_}
@@ -8,28 +8,29 @@ use mathlib.Core.Option.{Option, none, some}
 use native.Mathlib.Omega.{arith}
 use lib.Dec.{eqb, ltb}
 use lib.ListN.{length}
+use borrow.Author.Tests.{eqb-true, eqb-false}
 use Rattle.model.specs.declared.Geometry.{Geometry}
 use Rattle.model.specs.Geometry.{partitions}
 use Rattle.model.specs.Keys.{partitionOf, pageOf}
-use Rattle.model.specs.Partition.{partition, headOf, flushesOf, isLive}
+use Rattle.model.specs.Partition.{partition, headOf, flushesOf, liveOf, isLive}
 use Rattle.model.specs.Answers.{Areas, Refusal, unread}
 use Rattle.model.specs.Refusals.{refuseIf, unopened, headOverfull, keyOverfull, somePageOverfull, lastFlush}
 use Rattle.model.specs.Flush.{inUse}
 use Rattle.model.specs.Put.{noPosition, due}
 use Rattle.model.specs.PartitionText.{partitionText}
-use Rattle.model.specs.Calls.{put, get, del, flush, view, count, text, checks}
+use Rattle.model.specs.Calls.{put, get, del, flush, view, count, text, drop, checks}
 use Rattle.model.proofs.Sizes.{page-of-lt, partition-of-lt}
-use Rattle.model.proofs.Tests.{either}
+use Rattle.model.proofs.Tests.{numbers, either}
 use Rattle.model.proofs.Heads.{fits-head}
-use Rattle.model.proofs.Checks.{fits-page, fits-pages, fits-key, get-passes, put-21, put-undue, put-due, del-full, due-last, flush-4, flush-last, count-4, count-passes, text-4, text-room, view-4, view-last}
-use Rattle.model.proofs.Calls.{checks-put, checks-get, checks-del, checks-flush, checks-view, checks-count, checks-text}
+use Rattle.model.proofs.Checks.{fits-page, fits-pages, fits-key, get-passes, put-21, put-undue, put-due, del-full, due-last, flush-4, flush-last, drop-4, drop-23, drop-read, count-4, count-passes, text-4, text-room, view-4, view-last}
+use Rattle.model.proofs.Calls.{checks-put, checks-get, checks-del, checks-flush, checks-view, checks-count, checks-text, checks-drop}
 use Rattle.history.proofs.Table.{Part, mustList, due as dueIn}
 use Rattle.history.proofs.Core.{PartOk}
 use Rattle.history.proofs.Totals.{all-most}
 use Rattle.history.proofs.Shows.{ShowsPart, list-count}
 use Rattle.history.proofs.Passing.{must-list-shown}
-use Rattle.history.proofs.Totalling.{due-shown, heads-shown, batches-shown}
-use Rattle.history.proofs.Ends.{Counted, flush-in, put-in, flushed-put-in, del-in}
+use Rattle.history.proofs.Totalling.{due-shown, heads-shown, batches-shown, oldest-sound}
+use Rattle.history.proofs.Ends.{Counted, flush-in, drop-in, put-in, flushed-put-in, del-in}
 use Rattle.history.proofs.Areas.{Shows, AllCounted, shows-opens}
 
 module _ (a : Areas) (g : Geometry) (ps : ℕ → Part) (shows : Shows a g ps) (counted : AllCounted a g ps) (fits : (t : ℕ) → PartOk g (ps t)) where
@@ -64,6 +65,14 @@ module _ (a : Areas) (g : Geometry) (ps : ℕ → Part) (shows : Shows a g ps) (
         checks-flush a g (shows .geometry) opening t ∙ flush-last g t p (a .flash) below head-ok pages-ok
         ∙ rw (due-last g t 0 p (a .flash) (heads-shown g ok t p _ _ at (fits t)) (flush-in g ok t p _ _ was (fits t)))
 
+    pub drop-checks : checks a (drop t) ≡ refuseIf (eqb (liveOf p) 0) 23 none
+    drop-checks = checks-drop a g (shows .geometry) opening t ∙ either (eqb (liveOf p) 0)
+        (λ e. drop-23 g t p (a .flash) below head-ok (eqb-true _ _ e) ∙ rw e)
+        (λ e.
+        let ok = shows .ok in
+        let any : 1 ≤ ps t .live = omega (numbers, at .live) in
+        drop-read g t p (a .flash) below head-ok (eqb-false _ _ e) ∙ rw (e, oldest-sound g ok t p _ _ at (fits t) any, drop-in g ok t p _ _ was (fits t) any))
+
     pub count-checks : checks a (count t) ≡ none
     count-checks = checks-count a g (shows .geometry) opening t ∙ count-passes g t p below head-ok
 
@@ -71,13 +80,16 @@ module _ (a : Areas) (g : Geometry) (ps : ℕ → Part) (shows : Shows a g ps) (
     text-checks room =
         checks-text a g (shows .geometry) opening t room ∙ text-room g t room p (a .flash) below head-ok pages-ok (batches-shown g (shows .ok) t p _ _ at (fits t))
 
-    pub view-checks : (q n : ℕ) → q < g .pages → checks a (view t q n) ≡ refuseIf (not (eqb n 0) && not (isLive g (headOf p) n)) 17 none
+    pub view-checks : (q n : ℕ) → q < g .pages → checks a (view t q n) ≡ refuseIf (not (eqb n 0) && not (isLive (headOf p) n)) 17 none
     view-checks q n l =
         checks-view a g (shows .geometry) opening t q n ∙ view-last g t q n p below l head-ok (rw (fits-page g p q (at .buffer q l .fits)) (and-false (eqb n 0)))
 
   -- and of another
   pub flush-out : (t : ℕ) → partitions g ≤ t → checks a (flush t) ≡ some (unread 4)
   flush-out t l = checks-flush a g (shows .geometry) opening t ∙ flush-4 g t _ (a .flash) l
+
+  pub drop-out : (t : ℕ) → partitions g ≤ t → checks a (drop t) ≡ some (unread 4)
+  drop-out t l = checks-drop a g (shows .geometry) opening t ∙ drop-4 g t _ (a .flash) l
 
   pub count-out : (t : ℕ) → partitions g ≤ t → checks a (count t) ≡ some (unread 4)
   count-out t l = checks-count a g (shows .geometry) opening t ∙ count-4 g t _ l

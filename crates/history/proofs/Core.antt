@@ -1,5 +1,6 @@
--- What a table and its history have in common, but for the counting of pages, and that a flush keeps it.
+-- What a table and its history have in common, but for the counting of pages, and that a flush and a drop keep it.
 use Prim.Native.Nat.{ℕ, zero, suc, _-_, _≤_}
+use mathlib.Core.Bool.{false}
 use mathlib.Core.Path.{_≡_, refl, sym, _∙_, ap}
 use mathlib.Core.List.{List}
 use mathlib.Core.Option.{Option, none, some}
@@ -14,10 +15,10 @@ use Rattle.model.specs.Keys.{partitionOf, pageOf}
 use Rattle.model.proofs.Tests.{numbers, either}
 use Rattle.model.proofs.Tables.{Entry, find, strike, Distinct, unless, find-strike, distinct-strike, length-strike}
 use Rattle.model.proofs.Partitions.{modify, modify-at, modify-off}
-use Rattle.history.specs.History.{Known, History, older, aged, withKey}
+use Rattle.history.specs.History.{Known, History, older, aged, unlessAged, lowered, withKey}
 use Rattle.history.proofs.Modify.{modify-all, cond-both}
-use Rattle.history.proofs.Table.{Part, Live, expires, liveAfter, flushed}
-use Rattle.history.proofs.Told.{Told, told-same, told-flush}
+use Rattle.history.proofs.Table.{Part, Live, expires, liveAfter, flushed, dropped}
+use Rattle.history.proofs.Told.{Told, told-same, told-flush, told-drop}
 
 -- the pages of an age: the buffer at 0, then the batches, youngest first
 abbrev pub pagesAt : Part → ℕ → ℕ → List Entry
@@ -64,20 +65,23 @@ module _ (g : Geometry) where
       told-same (find-strike _ k (p .list) (ok .once)) (λ a. refl)
       (told-flush (seen g p k) (seen g (flushed g p) k) refl (λ a. ap (find k) (flushed-pages p (pageOf g k) a)) (g .kept) told)
 
-  -- a stamp that did not expire is still live
+  -- a stamp that is left was there, and did not expire
+  stamp-left : (p : Part) → PartOk g p → (back j n : ℕ) → find j (strike (expires back (p .flushes)) (p .list)) ≡ some n → Live p n × (expires back (p .flushes) n ≡ false)
+  stamp-left p ok back j n e = go (find j (p .list)) refl (sym (find-strike (expires back (p .flushes)) j (p .list) (ok .once)) ∙ e)
+    where
+      go : (o : Option ℕ) → find j (p .list) ≡ o → unless (expires back (p .flushes)) o ≡ some n → Live p n × (expires back (p .flushes) n ≡ false)
+      go none was now = let z : _≡_ {A = ℕ} 0 1 = cc in absurd (omega arith)
+      go (some m) was now = either (expires back (p .flushes) m)
+          (λ h. let z : none ≡ some n = simp h at now in let z : _≡_ {A = ℕ} 0 1 = cc in absurd (omega arith))
+          (λ h. let same : some m ≡ some n = simp h at now in let e : m ≡ n = cc in rw (← e) (ok .stamps j m was, h))
+
+  -- so it is still live
   flushed-stamps : (p : Part) → PartOk g p → (j n : ℕ) → find j (strike (expires (g .kept) (p .flushes)) (p .list)) ≡ some n → Live (flushed g p) n
   unfolding flushed
-  flushed-stamps p ok j n e = go (find j (p .list)) refl (sym (find-strike (expires (g .kept) (p .flushes)) j (p .list) (ok .once)) ∙ e)
-    where
-      go : (o : Option ℕ) → find j (p .list) ≡ o → unless (expires (g .kept) (p .flushes)) o ≡ some n → Live (flushed g p) n
-      go none was now = let z : _≡_ {A = ℕ} 0 1 = cc in absurd (omega arith)
-      go (some m) was now = either (expires (g .kept) (p .flushes) m)
-          (λ h. let z : none ≡ some n = simp h at now in let z : _≡_ {A = ℕ} 0 1 = cc in absurd (omega arith))
-          (λ h.
-          let same : some m ≡ some n = simp h at now in
-          let e : m ≡ n = cc in
-          let old = ok .stamps j m was in
-          rw (← e) (record { first = old .first; flushed = omega (arith, old .flushed); near = omega (numbers, old .near, ok .liveKept) }))
+  flushed-stamps p ok j n e =
+      let left = stamp-left p ok (g .kept) j n e in
+      let old = left .0 in
+      record { first = old .first; flushed = omega (arith, old .flushed); near = omega (numbers, left .1, old .near, ok .liveKept) }
 
   pub flushed-ok : (p : Part) → PartOk g p → PartOk g (flushed g p)
   unfolding flushed
@@ -101,6 +105,49 @@ core-flush h t ps c =
       keys = λ k. cond-both (λ p w. KeyOk g p k w) (eqb (partitionOf g k) t)
           (flushed-key g _ k _ (c .parts (partitionOf g k)) (c .keys k)) (c .keys k);
       lives = λ u. cond-both (λ (p : Part) (n : ℕ). n ≡ p .live) (eqb u t) (ap (liveAfter (g .kept)) (c .lives u)) (c .lives u);
+    }
+
+-- a drop: the key's places are as they were, and the oldest is live no more
+module _ (g : Geometry) (p : Part) (ok : PartOk g p) where
+  dropped-key : 1 ≤ p .live → (k : ℕ) (w : Option Known) → KeyOk g p k w → KeyOk g (dropped p) k (unlessAged (p .live) w)
+  unfolding dropped
+  dropped-key any k w told = told-same (find-strike _ k (p .list) (ok .once)) (λ a. same a) (told-drop any told)
+    where
+      same : (a : ℕ) → seen g (dropped p) k a ≡ seen g p k a
+      same zero = refl
+      same (suc a) = refl
+
+  dropped-stamps : (j n : ℕ) → find j (strike (expires (p .live) (p .flushes)) (p .list)) ≡ some n → Live (dropped p) n
+  unfolding dropped
+  dropped-stamps j n e =
+      let left = stamp-left g p ok (p .live) j n e in
+      let old = left .0 in
+      record { first = old .first; flushed = old .flushed; near = omega (numbers, left .1, old .near) }
+
+  pub dropped-ok : PartOk g (dropped p)
+  unfolding dropped
+  dropped-ok = record {
+    liveKept = omega (arith, ok .liveKept);
+    liveFlushed = omega (arith, ok .liveFlushed);
+    once = distinct-strike _ (p .list) (ok .once);
+    listFits = omega (arith, length-strike (expires (p .live) (p .flushes)) (p .list), ok .listFits);
+    stamps = dropped-stamps;
+    apart = ok .apart;
+    fits = ok .fits;
+    batchFits = ok .batchFits;
+  }
+
+pub core-drop : (h : History) (t : ℕ) (ps : ℕ → Part) → 1 ≤ ps t .live → Core ps h → Core (modify t dropped ps) (lowered t h)
+unfolding modify dropped
+core-drop h t ps any c =
+    let g = h .geometry in
+    record {
+      parts = modify-all (λ u. PartOk g) t dropped ps (λ u e. dropped-ok g (ps u) (c .parts u)) (λ u e. c .parts u);
+      keys = λ k. elim (ℕ-discrete (partitionOf g k) t) [
+        | yes e ↦ rw (e, eq-eqb t t refl, c .lives t) (dropped-key g (ps t) (c .parts t) any k _ (rw e at (c .keys k)))
+        | no e ↦ rw (ne-eqb (partitionOf g k) t e) (c .keys k)
+      ];
+      lives = λ u. cond-both (λ (p : Part) (n : ℕ). n ≡ p .live) (eqb u t) (ap (λ (n : ℕ). n - 1) (c .lives u)) (c .lives u);
     }
 
 -- `p′` is `p` changed for the one key `k`, of which the history then knows `w`

@@ -14,7 +14,7 @@ use Rattle.model.proofs.Tests.{either}
 use Rattle.model.proofs.Sums.{sum-zero, sum-at, sum-change}
 use Rattle.model.proofs.Tables.{Entry, find, store, erase, length-store, length-erase}
 use Rattle.model.proofs.Partitions.{modify, modify-at, modify-off}
-use Rattle.history.proofs.Table.{Part, flushed, stored, deleted}
+use Rattle.history.proofs.Table.{Part, flushed, dropped, stored, deleted}
 
 -- the entries in a partition's buffer
 abbrev pub entriesIn : Geometry → Part → ℕ
@@ -50,6 +50,10 @@ module _ (g : Geometry) (p : Part) where
   pub flushed-entries : entriesIn g (flushed g p) ≤ 0
   unfolding flushed
   flushed-entries = omega (arith, sum-zero (g .pages))
+
+  pub dropped-entries : entriesIn g (dropped p) ≤ entriesIn g p
+  unfolding dropped
+  dropped-entries = omega arith
 
   module _ (k : ℕ) (inside : pageOf g k < g .pages) where
     -- the key's buffer page changed by c

@@ -1,4 +1,4 @@
--- What a flush, a put and a del end with: a total that counts the changed partition's entries, so that the last 12 stops none of them, and bytes that show it.
+-- What a flush, a drop, a put and a del end with: a total that counts the changed partition's entries, so that the last 12 stops none of them, and bytes that show it.
 use Prim.Native.Nat.{ℕ, _+_, _-_, _^_, _≤_, _<_}
 use mathlib.Core.Bool.{true, false}
 use mathlib.Core.Path.{_≡_, sym, _∙_, ap}
@@ -11,28 +11,30 @@ use Rattle.model.specs.Search.{isSome}
 use Rattle.model.specs.Geometry.{allowed, partitions, capacity, mostEntries, flashNeed}
 use Rattle.model.specs.Keys.{partitionOf, pageOf}
 use Rattle.model.specs.Partition.{Head, headOf, totalled, flushesOf, listedOf, totalOf}
-use Rattle.model.specs.Batch.{dropped}
+use Rattle.model.specs.Batch.{leaving}
 use Rattle.model.specs.Refusals.{totalOut}
 use Rattle.model.specs.Flush.{flushed, flushIn, withBatch}
+use Rattle.model.specs.Drop.{oldestEntries, dropIn}
 use Rattle.model.specs.Put.{appends, unlisted, buffered, putIn}
 use Rattle.model.specs.Del.{isListed, stampFor, removes, unbuffered, listedWith, deleted}
 use Rattle.model.proofs.Sizes.{sizes, page-of-lt, most-max}
 use Rattle.model.proofs.Lengths.{length-buffered, length-unbuffered}
 use Rattle.model.proofs.Tests.{either}
 use Rattle.model.proofs.Tables.{find, store}
-use Rattle.model.proofs.Heads.{HeadWords, in-total}
+use Rattle.model.proofs.Heads.{HeadWords, in-total, total-dropped}
 use Rattle.model.proofs.Checks.{removes-taken}
 use Rattle.model.proofs.Totals.{total-buffered, total-unlisted, total-listed, total-unbuffered, total-flushed}
-use Rattle.model.proofs.PartitionsCalls.{laid-buffered, laid-unbuffered, put-kept, put-flushed, deleted-listed, deleted-stamped}
-use Rattle.history.proofs.Table.{Part, mustList, due as dueIn, flushed as flushedPart, stored as storedPart, deleted as deletedPart}
-use Rattle.history.proofs.Core.{PartOk, flushed-ok}
+use Rattle.model.proofs.PartitionsCalls.{laid-buffered, laid-unbuffered, laid-dropped, put-kept, put-flushed, deleted-listed, deleted-stamped}
+use Rattle.history.proofs.Table.{Part, mustList, due as dueIn, flushed as flushedPart, dropped as droppedPart, stored as storedPart, deleted as deletedPart}
+use Rattle.history.proofs.Core.{PartOk, flushed-ok, dropped-ok}
 use Rattle.history.proofs.Changes.{stored-touch}
-use Rattle.history.proofs.Totals.{entriesAll, flushed-adds, all-most, flushed-all, stored-all, deleted-all}
+use Rattle.history.proofs.Totals.{entriesAll, flushed-adds, all-most, flushed-all, dropped-all, stored-all, deleted-all}
 use Rattle.history.proofs.Good.{room-free, room-flushed}
 use Rattle.history.proofs.Shows.{ShowsPart, list-count, list-has}
-use Rattle.history.proofs.Totalling.{due-shown, appends-shown, removes-shown, dropped-shown, shows-totalled, total-totalled}
+use Rattle.history.proofs.Totalling.{due-shown, appends-shown, removes-shown, oldest-shown, leaving-shown, shows-totalled, total-totalled}
 use Rattle.history.proofs.Passing.{must-list-shown}
 use Rattle.history.proofs.Flushing.{shows-flushed}
+use Rattle.history.proofs.Dropping.{shows-dropped}
 use Rattle.history.proofs.Storing.{shows-put, shows-deleted}
 
 -- bytes that show a partition, and whose head counts its entries
@@ -69,14 +71,14 @@ module _ (g : Geometry) (ok : allowed g ≡ true) (t : ℕ) (p f : List ℕ) (s 
   shows = was .shown
 
   -- ---- a flush: the batch that it pushes out
-  flush-ends : totalOf p + 0 ≡ entriesAll g (flushedPart g s) + dropped g t p f
-  flush-ends = omega (arith, was .total, flushed-all g s part, dropped-shown g ok t p f s shows part)
+  flush-ends : totalOf p + 0 ≡ entriesAll g (flushedPart g s) + leaving g t p f
+  flush-ends = omega (arith, was .total, flushed-all g s part, leaving-shown g ok t p f s shows part)
 
   flush-room : entriesAll g (flushedPart g s) ≤ mostEntries g
   flush-room = all-most g (flushedPart g s) (flushed-ok g s part)
 
-  pub flush-in : totalOut g 0 (dropped g t p f) (headOf p) ≡ false
-  flush-in = stays-in g p 0 (dropped g t p f) _ flush-room flush-ends
+  pub flush-in : totalOut g 0 (leaving g t p f) (headOf p) ≡ false
+  flush-in = stays-in g p 0 (leaving g t p f) _ flush-room flush-ends
 
   module _ (below : t < partitions g) (flashFits : flashNeed g ≤ length f) (more : flushesOf p + 1 < 2 ^ 32) where
     flush-shown : ShowsPart g t (flushed g t p) (withBatch g t p (g .pages) f) (flushedPart g s)
@@ -87,7 +89,24 @@ module _ (g : Geometry) (ok : allowed g ≡ true) (t : ℕ) (p f : List ℕ) (s 
 
     pub flush-counted : Counted g t (flushIn g t f p) (withBatch g t p (g .pages) f) (flushedPart g s)
     unfolding flushIn
-    flush-counted = counted-totalled g ok t _ _ _ flush-shown flush-room 0 (dropped g t p f) (ap (λ (n : ℕ). n + 0) flush-total ∙ flush-ends)
+    flush-counted = counted-totalled g ok t _ _ _ flush-shown flush-room 0 (leaving g t p f) (ap (λ (n : ℕ). n + 0) flush-total ∙ flush-ends)
+
+  -- ---- a drop: the oldest live batch
+  module _ (any : 1 ≤ s .live) where
+    drop-ends : totalOf p + 0 ≡ entriesAll g (droppedPart s) + oldestEntries g t p f
+    drop-ends = omega (arith, was .total, dropped-all g s any, oldest-shown g ok t p f s shows part any)
+
+    pub drop-in : totalOut g 0 (oldestEntries g t p f) (headOf p) ≡ false
+    drop-in = stays-in g p 0 (oldestEntries g t p f) _ (all-most g (droppedPart s) (dropped-ok g s part)) drop-ends
+
+    pub drop-counted : Counted g t (dropIn g t f p) f (droppedPart s)
+    unfolding dropIn
+    drop-counted =
+        let less = oldestEntries g t p f in
+        record {
+          shown = shows-dropped g ok t p f s shows (part .listFits) less;
+          total = ap (λ (h : Head). h .total) (laid-dropped g ok p (shows .long) (shows .words) less .head) ∙ total-dropped g less p ∙ omega (arith, drop-ends);
+        }
 
   module _ (k : ℕ) where
     -- ---- a del: the entry that leaves the buffer
@@ -116,7 +135,7 @@ module _ (g : Geometry) (ok : allowed g ≡ true) (t : ℕ) (p f : List ℕ) (s 
       put-ends : totalOf p + appends g k p ≡ entriesAll g (storedPart g k v s) + 0
       put-ends = omega (arith, was .total, stored-all g s k (page-of-lt g ok k) v, appends-shown g ok t p f s shows k)
 
-      flushed-put-ends : totalOf p + 1 ≡ entriesAll g (storedPart g k v (flushedPart g s)) + dropped g t p f
+      flushed-put-ends : totalOf p + 1 ≡ entriesAll g (storedPart g k v (flushedPart g s)) + leaving g t p f
       flushed-put-ends = omega (arith, flush-ends, stored-all g (flushedPart g s) k (page-of-lt g ok k) v, flushed-adds g s k)
 
       -- its page has room, and so has the total
@@ -139,8 +158,8 @@ module _ (g : Geometry) (ok : allowed g ≡ true) (t : ℕ) (p f : List ℕ) (s 
       flushed-put-room : entriesAll g (storedPart g k v (flushedPart g s)) ≤ mostEntries g
       flushed-put-room = all-most g _ (stored-touch g k (flushedPart g s) (flushed-ok g s part) v page-room .ok)
 
-      pub flushed-put-in : totalOut g 1 (dropped g t p f) (headOf p) ≡ false
-      flushed-put-in = stays-in g p 1 (dropped g t p f) _ flushed-put-room flushed-put-ends
+      pub flushed-put-in : totalOut g 1 (leaving g t p f) (headOf p) ≡ false
+      flushed-put-in = stays-in g p 1 (leaving g t p f) _ flushed-put-room flushed-put-ends
 
       pub flushed-put-counted : k < 2 ^ 64 → v < 2 ^ 64 → dueIn g k s ≡ true → partitionOf g k ≡ t → t < partitions g → flashNeed g ≤ length f → flushesOf p + 1 < 2 ^ 32
           → Counted g t (putIn g k v f p) (withBatch g t p (g .pages) f) (storedPart g k v (flushedPart g s))
@@ -149,4 +168,4 @@ module _ (g : Geometry) (ok : allowed g ≡ true) (t : ℕ) (p f : List ℕ) (s 
           let stores = shows-put g ok t (flushed g t p) _ (flushedPart g s) flush (flushed-ok g s part) k hk v hv page-room in
           let same : totalOf (unlisted g k (buffered g k v (flushed g t p))) ≡ totalOf p = total-put g ok t (flushed g t p) _ (flushedPart g s) flush k v ∙ flush-total below flashFits more in
           rw (put-flushed g k p v f (due-shown g ok t p f s shows k ∙ is-due), own)
-          (counted-totalled g ok t _ _ _ stores flushed-put-room 1 (dropped g t p f) (ap (λ (n : ℕ). n + 1) same ∙ flushed-put-ends))
+          (counted-totalled g ok t _ _ _ stores flushed-put-room 1 (leaving g t p f) (ap (λ (n : ℕ). n + 1) same ∙ flushed-put-ends))

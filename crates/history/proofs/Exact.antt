@@ -49,7 +49,7 @@ module _ (a : Areas) (h : History) (inv : InStep a h) (t : ℕ) (below : t < par
   at : ShowsPart g t (partition g t (a .memory)) (a .flash) (inv .table t)
   at = inv .shows .part t below
 
-  pub filters-exact : (n b : ℕ) → isLive (geometryIn a) (headOf (partitionIn a t)) n ≡ true → b < geometryIn a .bits
+  pub filters-exact : (n b : ℕ) → isLive (headOf (partitionIn a t)) n ≡ true → b < geometryIn a .bits
       → slotBits (geometryIn a) (partitionIn a t) (slot (geometryIn a) n) b ≡ isSet (filterFor (geometryIn a) (batchPage (geometryIn a) t (a .flash) n)) b
   filters-exact n b l inside =
       let live = live-by-table at n (rw (inv .shows .geometry) at l) in
@@ -58,7 +58,7 @@ module _ (a : Areas) (h : History) (inv : InStep a h) (t : ℕ) (below : t < par
       ∙ sym (bits-same g _ (inv .table t .batch n) (λ q m. at .batch n live q m .page .entries) b)
       ∙ sym (set-filterFor g (sizes g (inv .shows .ok) .bits-is) (omega (arith, sizes g (inv .shows .ok) .bits-min)) b (batchPage g t (a .flash) n)))
 
-  pub stamps-live : (i : ℕ) → i < listedOf (partitionIn a t) → isLive (geometryIn a) (headOf (partitionIn a t)) (stampAt (listOf (geometryIn a) (partitionIn a t)) i) ≡ true
+  pub stamps-live : (i : ℕ) → i < listedOf (partitionIn a t) → isLive (headOf (partitionIn a t)) (stampAt (listOf (geometryIn a) (partitionIn a t)) i) ≡ true
   stamps-live i l =
       let p : List ℕ = partition g t (a .memory) in
       let l′ : i < listedOf p = rw (inv .shows .geometry) at l in

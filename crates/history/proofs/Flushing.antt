@@ -69,7 +69,7 @@ module _ (g : Geometry) (ok : allowed g ≡ true) (t : ℕ) (below : t < partiti
   pub shows-flushed : ShowsPart g t (flushed g t p) (withBatch g t p (g .pages) f) (flushedPart g s)
   unfolding flushedPart
   shows-flushed = shows-laid ok (laid-flushed g ok p (shows .long) (shows .words) t more)
-      (words-after g p (shows .words) more)
+      (words-after g p (shows .words) more (omega (arith, sizes g ok .kept-max)))
       (flushes-after g p ∙ omega (arith, shows .flushes))
       (live-after g p ∙ ap (liveAfter (g .kept)) (shows .live))
       (ap₂ listEntries (listed-after g p) refl

@@ -9,7 +9,7 @@ use Rattle.model.specs.Search.{isSome}
 use Rattle.model.specs.Keys.{partitionOf, pageOf}
 use Rattle.model.specs.Page.{searched, expected}
 use Rattle.model.specs.DeleteList.{listedAt}
-use Rattle.model.specs.Partition.{headOf, flushesOf, listedOf, listOf, bufferOf, live, passingFrom, passing}
+use Rattle.model.specs.Partition.{headOf, flushesOf, listedOf, listOf, liveOf, bufferOf, passingFrom, passing}
 use Rattle.model.specs.Answers.{Areas, Refusal, Answer, refused, buffer, batch}
 use Rattle.model.specs.Batch.{batchPage}
 use Rattle.model.specs.Get.{hitIn, readThrough, sought}
@@ -54,7 +54,7 @@ module _ (a : Areas) (k : ℕ) where
       (cond (isSome o) [] (readOf g k (a .flash) (passing g k p)))
   unfolding passing
   in-buffer (some i) = refl
-  in-buffer none = walked (live g (headOf p)) (flushesOf p) 0 [] tt
+  in-buffer none = walked (liveOf p) (flushesOf p) 0 [] tt
 
   in-list : (o : Option ℕ) → listedAt (listedOf p) k (listOf g p) ≡ o → Follows a k (sought g k p (a .flash)) (readBy a k)
   unfolding batchesRead

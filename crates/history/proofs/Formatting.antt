@@ -15,7 +15,6 @@ use Rattle.model.proofs.Words.{word-zero}
 use Rattle.model.proofs.Sizes.{sizes}
 use Rattle.model.proofs.Lengths.{length-formatted}
 use Rattle.model.proofs.Entries.{entriesFrom}
-use Rattle.model.proofs.Heads.{live-zeros}
 use Rattle.model.proofs.Partitions.{laid, laid-emptied}
 use Rattle.model.proofs.PartitionsFormat.{formatted-geometry, formatted-eighth, formatted-partition}
 use Rattle.model.proofs.PartitionsCalls.{page-long}
@@ -36,7 +35,7 @@ module _ (g : Geometry) (ok : allowed g ≡ true) where
       let noFlush = word-zero 4 n 0 in
       let noneListed = word-zero 4 n 4 in
       shows-laid ok (laid-emptied g ok t (laid g p long) (page-long g ok p long))
-      (record { flushes = omega arith; listed = omega arith; total = omega (arith, word-zero 4 n 8); rest = omega (arith, word-zero 4 n 12) }) noFlush (live-zeros g n) (rw noneListed)
+      (record { flushes = omega arith; listed = omega arith; total = omega (arith, word-zero 4 n 8); live = omega (arith, word-zero 4 n 12) }) noFlush (word-zero 4 n 12) (rw noneListed)
       (λ q l. shows-emptied g ok t q (bufferOf g p q) (omega (arith, sizes g ok .partitions-max)) (omega (arith, sizes g ok .pages-max)) (page-long g ok p long q l))
       (λ n live. absurd (omega (arith, live .first, live .flushed)))
       (λ n b live. absurd (omega (arith, live .first, live .flushed)))

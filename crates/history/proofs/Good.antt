@@ -1,4 +1,4 @@
--- The invariant: it holds of a fresh table, and a flush, a del and a put keep it.
+-- The invariant: it holds of a fresh table, and a flush, a drop, a del and a put keep it.
 use Prim.Native.Nat.{ℕ, zero, suc, _+_, _*_, _≤_, _<_}
 use mathlib.Core.Bool.{Bool, true, false, cond, not}
 use mathlib.Core.List.{[]}
@@ -16,12 +16,12 @@ use Rattle.model.proofs.Tests.{numbers, either, both-true}
 use Rattle.model.proofs.Sums.{sum-zero, sum-same}
 use Rattle.model.proofs.Tables.{find, store, length-store}
 use Rattle.model.proofs.Partitions.{modify, modify-at}
-use Rattle.history.specs.History.{History, blank, aged, withKey, counted}
-use Rattle.history.proofs.Table.{Part, Live, empty, due, mustList, flushed, stored, deleted}
+use Rattle.history.specs.History.{History, blank, aged, lowered, withKey, counted}
+use Rattle.history.proofs.Table.{Part, Live, empty, due, mustList, flushed, dropped, stored, deleted}
 use Rattle.history.proofs.Told.{absent}
-use Rattle.history.proofs.Core.{seen, KeyOk, PartOk, Core, core-flush, core-touch}
+use Rattle.history.proofs.Core.{seen, KeyOk, PartOk, Core, core-flush, core-drop, core-touch}
 use Rattle.history.proofs.Changes.{stored-touch, deleted-touch}
-use Rattle.history.proofs.Credit.{entriesIn, Credit, credit-change, flushed-entries, stored-entries, deleted-entries, page-entries}
+use Rattle.history.proofs.Credit.{entriesIn, Credit, credit-change, flushed-entries, dropped-entries, stored-entries, deleted-entries, page-entries}
 
 -- what an allowed geometry gives
 pub record Fine (g : Geometry) : Type 0 where
@@ -81,6 +81,13 @@ module _ (ps : ℕ → Part) (h : History) (good : Good ps h) where
     fine = good .fine;
     core = core-flush h t ps (good .core);
     credit = credit-change (h .geometry) ps t below (flushed (h .geometry)) 0 _ _ _ _ (flushed-entries (h .geometry) (ps t)) (good .credit) (omega arith);
+  }
+
+  pub good-drop : (t : ℕ) → t < partitions (h .geometry) → 1 ≤ ps t .live → Good (modify t dropped ps) (lowered t h)
+  good-drop t below any = record {
+    fine = good .fine;
+    core = core-drop h t ps any (good .core);
+    credit = credit-change (h .geometry) ps t below dropped (entriesIn (h .geometry) (ps t)) _ _ _ _ (dropped-entries (h .geometry) (ps t)) (good .credit) (omega arith);
   }
 
   pub good-del : (k : ℕ) → partitionOf (h .geometry) k < partitions (h .geometry)

@@ -1,5 +1,5 @@
--- Areas and a history in step: there is a table that both areas show, whose entries the heads count, and what the history holds is true of it. A format and a flush keep them so.
-use Prim.Native.Nat.{ℕ, _+_, _^_, _<_}
+-- Areas and a history in step: there is a table that both areas show, whose entries the heads count, and what the history holds is true of it. A format, a flush and a drop keep them so.
+use Prim.Native.Nat.{ℕ, _+_, _^_, _≤_, _<_}
 use mathlib.Core.Bool.{true, false}
 use mathlib.Core.Path.{_≡_, refl, sym, _∙_}
 use mathlib.Core.List.{List}
@@ -12,19 +12,20 @@ use Rattle.model.specs.Partition.{partition, totalOf, flushesOf}
 use Rattle.model.specs.Answers.{Areas}
 use Rattle.model.specs.Refusals.{lastFlush}
 use Rattle.model.specs.Flush.{flushIn, withBatch}
-use Rattle.model.specs.Calls.{format, flush, checks, effect}
+use Rattle.model.specs.Drop.{dropIn}
+use Rattle.model.specs.Calls.{format, flush, drop, checks, effect}
 use Rattle.model.proofs.Sizes.{sizes, page-of-lt}
 use Rattle.model.proofs.Lengths.{length-withBatch}
 use Rattle.model.proofs.Tests.{numbers}
 use Rattle.model.proofs.Partitions.{modify}
 use Rattle.model.proofs.PartitionsFlash.{batch-out}
-use Rattle.model.proofs.Checks.{format-accepted, flush-accepted, due-accepted}
-use Rattle.model.proofs.Calls.{checks-format, checks-flush, changedAt, effect-format, effect-flush}
-use Rattle.history.specs.History.{History, blank, aged}
-use Rattle.history.proofs.Table.{Part, empty, flushed as flushedPart}
+use Rattle.model.proofs.Checks.{format-accepted, flush-accepted, due-accepted, drop-accepted}
+use Rattle.model.proofs.Calls.{checks-format, checks-flush, checks-drop, changedAt, effect-format, effect-flush, effect-drop}
+use Rattle.history.specs.History.{History, blank, aged, lowered}
+use Rattle.history.proofs.Table.{Part, empty, flushed as flushedPart, dropped as droppedPart}
 use Rattle.history.proofs.Totals.{entriesAll}
-use Rattle.history.proofs.Good.{Fine, Good, good-blank, good-flush}
-use Rattle.history.proofs.Ends.{Counted, flush-counted}
+use Rattle.history.proofs.Good.{Fine, Good, good-blank, good-flush, good-drop}
+use Rattle.history.proofs.Ends.{Counted, flush-counted, drop-counted}
 use Rattle.history.proofs.Areas.{Shows, AllCounted, shows-opens, each-changed, shows-changed}
 use Rattle.history.proofs.Formatting.{shows-formatted, counted-formatted}
 
@@ -104,4 +105,19 @@ module _ (a : Areas) (h : History) (inv : InStep a h) where
         shows = written-shown t below (flushIn g t (a .flash)) (flushedPart g) now;
         counted = changed-counted t below (flushIn g t (a .flash)) (flushedPart g) _ now;
         good = good-flush (inv .table) h (inv .good) t below;
+      })
+
+  pub drop-keeps : (t : ℕ) → checks a (drop t) ≡ none → InStep (effect a (drop t)) (lowered t h)
+  drop-keeps t e =
+      let own = inv .shows .geometry in
+      let p : List ℕ = partition g t (a .memory) in
+      let passed = drop-accepted g t p (a .flash) (sym (checks-drop a g own (shows-opens a g (inv .table) (inv .shows)) t) ∙ e) in
+      let below = passed .0 in
+      let any : 1 ≤ inv .table t .live = omega (numbers, passed .2, inv .shows .part t below .live) in
+      let now = drop-counted g (inv .shows .ok) t p (a .flash) (inv .table t) (counted-at t below) (inv .good .core .parts t) any in
+      rw (effect-drop a g own t) (record {
+        table = modify t droppedPart (inv .table);
+        shows = kept-shown t below (dropIn g t (a .flash)) droppedPart now;
+        counted = changed-counted t below (dropIn g t (a .flash)) droppedPart _ now;
+        good = good-drop (inv .table) h (inv .good) t below any;
       })

@@ -22,12 +22,12 @@ pub record Lasting (a : Areas) (h : History) : Type 0 where
   -- put pages × E, and Q for each entry in the buffers, is at most Q × puts
   pub count : h .putPages * capacity (h .geometry) + h .geometry .pages * buffered a ≤ h .geometry .pages * h .puts
   -- a live batch's filter has exactly the bits of the one made of its pages
-  pub filters : (t n b : ℕ) → t < partitions (geometryIn a) → isLive (geometryIn a) (headOf (partitionIn a t)) n ≡ true → b < geometryIn a .bits
+  pub filters : (t n b : ℕ) → t < partitions (geometryIn a) → isLive (headOf (partitionIn a t)) n ≡ true → b < geometryIn a .bits
       → slotBits (geometryIn a) (partitionIn a t) (slot (geometryIn a) n) b ≡ isSet (filterFor (geometryIn a) (batchPage (geometryIn a) t (a .flash) n)) b
   -- every stamp is a live batch
   pub stamps : (t i : ℕ) → t < partitions (geometryIn a) → i < listedOf (partitionIn a t)
-      → isLive (geometryIn a) (headOf (partitionIn a t)) (stampAt (listOf (geometryIn a) (partitionIn a t)) i) ≡ true
-  -- but for a format, refusals 2, 3, 11, 12 and 13 do not come up, nor do the 12 that comes last and the 13 for a head that a put or a flush reads
+      → isLive (headOf (partitionIn a t)) (stampAt (listOf (geometryIn a) (partitionIn a t)) i) ≡ true
+  -- but for a format, refusals 2, 3, 11, 12 and 13 do not come up, nor do the 12 that comes last and the 13 for a head that a put, a flush or a drop reads
   pub refusals : (c : Call) → Fits c → Among (possible c) (reply a c)
 
 lasts : (a : Areas) (h : History) → InStep a h → Lasting a h

@@ -14,6 +14,7 @@ pub mod Pages
 pub mod Shows
 pub mod Totalling
 pub mod Flushing
+pub mod Dropping
 pub mod Passing
 pub mod Storing
 pub mod Ends

@@ -11,7 +11,7 @@ use Rattle.model.specs.declared.Geometry.{Geometry}
 use Rattle.model.specs.Search.{isSome}
 use Rattle.model.specs.Geometry.{partitions}
 use Rattle.model.specs.Keys.{partitionOf, pageOf}
-use Rattle.model.specs.Partition.{partition, headOf, live}
+use Rattle.model.specs.Partition.{partition, flushesOf, liveOf}
 use Rattle.model.specs.Answers.{Areas, Tally, Place, Answer, done, found, absent, shown, refused}
 use Rattle.model.specs.Get.{sought}
 use Rattle.model.specs.PartitionText.{partitionText}
@@ -28,6 +28,7 @@ use Rattle.history.proofs.Checking.{text-checks}
 use Rattle.history.proofs.InStep.{InStep, by-table, format-kept}
 use Rattle.history.proofs.Positions.{AllPositions, all-positions}
 use Rattle.history.proofs.Demand.{says, in-step}
+use Rattle.history.proofs.Totalling.{live-flushed}
 use Rattle.history.proofs.TextRoom.{text-room}
 use Rattle.history.proofs.TextLines.{sought-says, line, few-lines}
 use Rattle.history.proofs.Replay.{Ends}
@@ -63,6 +64,9 @@ module _ (a : Areas) (h : History) (inv : InStep a h) (positions : AllPositions 
   abbrev values : ℕ → Option ℕ
   values k = valueOf (h .keys k)
 
+  flushed : liveOf p ≤ flushesOf p
+  flushed = live-flushed g (inv .shows .ok) t p (a .flash) (inv .table t) (inv .shows .part t inside) (inv .good .core .parts t)
+
   told : (room : ℕ) → length (partitionText g t p (a .flash)) ≤ room → reply a (text t room) ≡ done (length (partitionText g t p (a .flash)))
   told room l =
       reply-accepted a (text t room) (text-checks a g (inv .table) (inv .shows) (inv .counted) (inv .good .core .parts) t inside room ∙ rw (le-ltb room (length (partitionText g t p (a .flash))) l))
@@ -71,7 +75,7 @@ module _ (a : Areas) (h : History) (inv : InStep a h) (positions : AllPositions 
   -- a key that a get finds has a line
   found-line : (k v : ℕ) (c : Tally) (at : Place) → partitionOf g k ≡ t → sought g k p (a .flash) ≡ found v c at → InText g t p (a .flash) k
   found-line k v c at own e =
-      let stands = found-stands g t p (a .flash) k v c at own e in
+      let stands = found-stands g t p (a .flash) flushed k v c at own e in
       record {
         piece = stands .source;
         below = omega (arith, stands .sourceBelow);
@@ -90,7 +94,7 @@ module _ (a : Areas) (h : History) (inv : InStep a h) (positions : AllPositions 
     abbrev start : Areas
     start = after b (format g)
 
-    ends : Ends (partitionText g t p (a .flash)) start (blank g) (At g t values (live g (headOf p) + 1) 0 0) (InText g t p (a .flash))
+    ends : Ends (partitionText g t p (a .flash)) start (blank g) (At g t values (liveOf p + 1) 0 0) (InText g t p (a .flash))
     ends = ends-text g t p (a .flash) values (line a h inv t inside positions) (few-lines a h inv t inside)
         (rw (inv .shows .part t inside .live) (inv .good .core .parts t .liveKept)) start (blank g) (fresh g t values b accepted)
 
@@ -121,7 +125,7 @@ module _ (a : Areas) (h : History) (inv : InStep a h) (positions : AllPositions 
 
   moves : Moves a t
   moves = record {
-    short = text-room (geometryIn a) t (partitionIn a t) (a .flash);
+    short = rw (inv .shows .geometry) (text-room g t p (a .flash) flushed);
     told = rw (inv .shows .geometry) told;
     moved = rw (inv .shows .geometry) (λ b accepted. record {
       taken = rw (inv .shows .geometry) (taken b accepted);

@@ -6,10 +6,10 @@ use mathlib.Core.Option.{some}
 use Rattle.model.specs.Bytes.{zeros}
 use Rattle.model.specs.Geometry.{G}
 use Rattle.model.specs.Page.{searched}
-use Rattle.model.specs.Partition.{passing}
-use Rattle.model.specs.Answers.{Areas, tally, batch, done, found, absent, refused}
+use Rattle.model.specs.Partition.{listedOf, passing}
+use Rattle.model.specs.Answers.{Areas, tally, buffer, batch, done, found, absent, refused}
 use Rattle.model.specs.Batch.{batchPage}
-use Rattle.model.specs.Calls.{Call, format, put, get, del, flush, partitionIn, run, replies}
+use Rattle.model.specs.Calls.{Call, format, put, get, del, flush, drop, partitionIn, run, replies}
 use Rattle.model.proofs.Computing.{computing}
 
 abbrev start : Areas
@@ -32,3 +32,35 @@ pub old-fault :
     ≡ absent (tally 0) ∷ refused 14 0 ∷ done 0 ∷ done 1 ∷ absent (tally 0) ∷ done 0 ∷ absent (tally 0) ∷ [])
 unfolding computing
 old-fault = (refl, refl, refl, refl)
+
+-- The same with drops. Key 1 is deleted in batch 1, and batch 1 is dropped: the list entry goes with it.
+abbrev deletedThenDropped : List Call
+deletedThenDropped = format G ∷ put 1 10 ∷ flush 0 ∷ put 20 20 ∷ flush 0 ∷ del 1 ∷ drop 0 ∷ []
+
+abbrev less : Areas
+less = run start deletedThenDropped
+
+-- Put again, the key goes to batch 3, which pushes nothing out, and is deleted there; then batch 4 pushes batch 2 out.
+abbrev putAgain : List Call
+putAgain = get 1 ∷ put 1 11 ∷ get 1 ∷ flush 0 ∷ get 1 ∷ get 20 ∷ del 1 ∷ put 40 30 ∷ flush 0 ∷ []
+
+abbrev edge : Areas
+edge = run less putAgain
+
+-- Slot 0 still holds the dropped batch, and no batch passes key 1. At the edge batch 3 passes it and holds it, and the list has no place for another key.
+-- With batch 5 batch 3 goes, and with a drop it does too: the place is free again.
+pub drop-fault :
+    (replies start deletedThenDropped ≡ done 0 ∷ done 0 ∷ done 1 ∷ done 0 ∷ done 1 ∷ done 0 ∷ done 0 ∷ [])
+    × (listedOf (partitionIn less 0) ≡ 0)
+    × (passing G 1 (partitionIn less 0) ≡ [])
+    × (searched 1 (batchPage G 0 (less .flash) 1 0) ≡ some 1)
+    × (replies less putAgain
+    ≡ absent (tally 0) ∷ done 0 ∷ found 11 (tally 0) buffer ∷ done 1 ∷ found 11 (tally 1) (batch 3) ∷ found 20 (tally 1) (batch 2) ∷ done 0 ∷ done 0 ∷ done 1 ∷ [])
+    × (passing G 1 (partitionIn edge 0) ≡ 3 ∷ [])
+    × (searched 1 (batchPage G 0 (edge .flash) 3 0) ≡ some 1)
+    × (replies edge (get 1 ∷ del 40 ∷ put 60 50 ∷ flush 0 ∷ get 1 ∷ del 40 ∷ get 40 ∷ [])
+    ≡ absent (tally 0) ∷ refused 14 0 ∷ done 0 ∷ done 1 ∷ absent (tally 0) ∷ done 0 ∷ absent (tally 0) ∷ [])
+    × (replies edge (drop 0 ∷ get 1 ∷ del 40 ∷ get 40 ∷ drop 0 ∷ drop 0 ∷ [])
+    ≡ done 0 ∷ absent (tally 0) ∷ done 0 ∷ absent (tally 0) ∷ done 0 ∷ refused 23 0 ∷ [])
+unfolding computing
+drop-fault = (refl, refl, refl, refl, refl, refl, refl, refl, refl)

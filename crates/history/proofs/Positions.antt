@@ -7,9 +7,9 @@ use native.Mathlib.Omega.{arith}
 use lib.Dec.{eqb, ltb}
 use Rattle.model.specs.Keys.{partitionOf}
 use Rattle.model.specs.Answers.{Areas, Refusal, Answer, done, found, absent, shown, refused}
-use Rattle.model.specs.Calls.{Call, format, put, get, del, flush, view, count, text, checks, reply}
+use Rattle.model.specs.Calls.{Call, format, put, get, del, flush, view, count, text, drop, checks, reply}
 use Rattle.model.proofs.Calls.{put-not-0, reply-refused}
-use Rattle.history.specs.History.{Known, History, older, aged, accepted, heard, note}
+use Rattle.history.specs.History.{Known, History, older, aged, unlessAged, accepted, heard, note}
 use Rattle.history.specs.Claim.{Fits, isRefused, valueOf, FromFormat}
 use Rattle.history.proofs.FromFormat.{from-format}
 
@@ -36,6 +36,11 @@ older-position kept (some w) p = cond-position (ltb kept (w .age + 1)) none (som
 aged-position : (t : ℕ) (h : History) → AllPositions h → AllPositions (aged t h)
 aged-position t h p k = cond-position (eqb (partitionOf (h .geometry) k) t) _ _ (older-position (h .geometry .kept) (h .keys k) (p k)) (p k)
 
+unaged-position : (age : ℕ) (o : Option Known) → Position o → Position (unlessAged age o)
+unfolding unlessAged
+unaged-position age none p = tt
+unaged-position age (some w) p = cond-position (eqb (w .age) age) none (some w) tt p
+
 accepted-position : (h : History) (c : Call) (n : ℕ) → Fits c → ((k : ℕ) → c ≡ put k 0 → ⊥) → AllPositions h → AllPositions (note h (accepted c n))
 unfolding note
 accepted-position h (format g) n fits other p k = tt
@@ -51,6 +56,7 @@ accepted-position h (flush t) n fits other p k = aged-position t h p k
 accepted-position h (view t q m) n fits other p k = p k
 accepted-position h (count t) n fits other p k = p k
 accepted-position h (text t room) n fits other p k = p k
+accepted-position h (drop t) n fits other p k = cond-position (eqb (partitionOf (h .geometry) k) t) _ _ (unaged-position (h .live t) (h .keys k) (p k)) (p k)
 
 heard-position : (h : History) (c : Call) (x : Answer) → Fits c → (isRefused x ≡ false → (k : ℕ) → c ≡ put k 0 → ⊥) → AllPositions h → AllPositions (note h (heard c x))
 unfolding note

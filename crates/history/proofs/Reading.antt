@@ -90,6 +90,6 @@ module _ (g : Geometry) (ok : allowed g ≡ true) (k : ℕ) (p f : List ℕ) (s 
   read-shown = rw (list-has shows k, page-has (shows .buffer (pageOf g k) (page-of-lt g ok k)) k) (read-in (find k (s .list)) (find k (s .buffer (pageOf g k))))
 
   -- live batches by the definition, too
-  pub live-falling : (high : ℕ) (ns : List ℕ) → LiveBatches s high ns → LiveFalling g p high ns
+  pub live-falling : (high : ℕ) (ns : List ℕ) → LiveBatches s high ns → LiveFalling p high ns
   live-falling high [] falls = tt
   live-falling high (n ∷ ns) falls = (falls .1, live-by-head shows n (falls .0), live-falling n ns (falls .2))

@@ -1,5 +1,5 @@
 -- While areas and history are in step, a call is refused for its arguments or for what the table holds, and for nothing else: 2, 3, 11, 12 and 13 do not come up.
--- That is so of the 12 that comes last too, which judges the total at the call's end, and of the 13 for a head that a put, a flush or a text reads.
+-- That is so of the 12 that comes last too, which judges the total at the call's end, and of the 13 for a head that a put, a flush, a drop or a text reads.
 use Prim.Native.Nat.{ℕ, _<_}
 use mathlib.Core.Bool.{Bool, true, false, false≢true, not, _&&_, _||_}
 use mathlib.Core.Path.{_≡_, refl, sym}
@@ -13,7 +13,7 @@ use borrow.Author.Tests.{ltb-true, ltb-false, not-false}
 use Rattle.model.specs.declared.Geometry.{Geometry}
 use Rattle.model.specs.Geometry.{allowed, partitions, memoryNeed, flashNeed}
 use Rattle.model.specs.Keys.{partitionOf}
-use Rattle.model.specs.Partition.{partition, headOf, flushesOf, isLive}
+use Rattle.model.specs.Partition.{partition, headOf, flushesOf, liveOf, isLive}
 use Rattle.model.specs.Answers.{Areas, Refusal, unread, Answer, done, found, absent, shown, refused}
 use Rattle.model.specs.Refusals.{refuseIf, lastFlush}
 use Rattle.model.specs.Flush.{inUse}
@@ -21,17 +21,17 @@ use Rattle.model.specs.Put.{noPosition}
 use Rattle.model.specs.Format.{formatChecks}
 use Rattle.model.specs.View.{viewed}
 use Rattle.model.specs.PartitionText.{partitionText}
-use Rattle.model.specs.Calls.{Call, format, put, get, del, flush, view, count, text, checks, result, reply}
+use Rattle.model.specs.Calls.{Call, format, put, get, del, flush, view, count, text, drop, checks, result, reply}
 use Rattle.model.proofs.Tests.{either, both-true}
 use Rattle.model.proofs.Tables.{any}
 use Rattle.model.proofs.Checks.{refuse-none, format-1, format-2, format-3, format-passes}
-use Rattle.model.proofs.Calls.{checks-format, result-format, result-put, result-del, result-flush, result-view, result-count, result-text, reply-refused, reply-accepted, viewed-page}
+use Rattle.model.proofs.Calls.{checks-format, result-format, result-put, result-del, result-flush, result-view, result-count, result-text, result-drop, reply-refused, reply-accepted, viewed-page}
 use Rattle.history.specs.History.{History}
 use Rattle.history.specs.Claim.{Fits, said}
 use Rattle.history.proofs.Table.{Part, due, mustList}
 use Rattle.history.proofs.Pages.{page-expected}
 use Rattle.history.proofs.Shows.{live-by-table}
-use Rattle.history.proofs.Checking.{put-checks, del-checks, flush-out, flush-checks, view-out, view-checks, count-out, count-checks, text-out, text-checks}
+use Rattle.history.proofs.Checking.{put-checks, del-checks, flush-out, flush-checks, view-out, view-checks, count-out, count-checks, text-out, text-checks, drop-out, drop-checks}
 use Rattle.history.proofs.InStep.{InStep}
 use Rattle.history.proofs.Demand.{says}
 
@@ -45,6 +45,7 @@ possible (flush t) = 4 ∷ 15 ∷ 16 ∷ []
 possible (view t q n) = 4 ∷ 17 ∷ []
 possible (count t) = 4 ∷ []
 possible (text t room) = 4 ∷ 22 ∷ []
+possible (drop t) = 4 ∷ 23 ∷ []
 
 -- a refusal of these, with no reads
 abbrev pub Among : List ℕ → Answer → Type 0
@@ -91,7 +92,7 @@ module _ (a : Areas) (h : History) (inv : InStep a h) where
   g = h .geometry
 
   -- a page of a live batch is as it must be
-  page-shown : (t q n : ℕ) → t < partitions g → q < g .pages → not (eqb n 0) && not (isLive g (headOf (partition g t (a .memory))) n) ≡ false
+  page-shown : (t q n : ℕ) → t < partitions g → q < g .pages → not (eqb n 0) && not (isLive (headOf (partition g t (a .memory))) n) ≡ false
       → Among (4 ∷ 17 ∷ []) (viewed g t q n (a .flash))
   page-shown t q n lt lq e = either (eqb n 0)
       (λ z. rw (viewed-page, z) tt)
@@ -129,7 +130,7 @@ module _ (a : Areas) (h : History) (inv : InStep a h) where
       let both = both-true (ltb t (partitions g)) (ltb q (g .pages)) e in
       let below = ltb-true t (partitions g) (both .0) in
       let page = ltb-true q (g .pages) (both .1) in
-      let dead = not (eqb n 0) && not (isLive g (headOf (p t)) n) in
+      let dead = not (eqb n 0) && not (isLive (headOf (p t)) n) in
       among a (view t q n) _ _ (view-checks a g (inv .table) (inv .shows) (inv .counted) (inv .good .core .parts) t below q n page)
       (give-if (4 ∷ 17 ∷ []) dead 17 none refl tt)
       (λ x. rw (result-view a g (inv .shows .geometry) t q n) (page-shown t q n below page (refuse-none dead 17 none x .0))))
@@ -148,3 +149,7 @@ module _ (a : Areas) (h : History) (inv : InStep a h) where
       (λ l. among a (text t room) _ _ (text-checks a g (inv .table) (inv .shows) (inv .counted) (inv .good .core .parts) t (ltb-true t (partitions g) l) room)
       (give-if (4 ∷ 22 ∷ []) (ltb room (length (partitionText g t (p t) (a .flash)))) 22 none refl tt) (λ e. rw (result-text a _ refl t room) tt))
       (λ l. rw (reply-refused a (text t room) (unread 4) (text-out a g (inv .table) (inv .shows) (inv .counted) (inv .good .core .parts) t room (ltb-false t (partitions g) l))) (refl, refl))
+  refusals-possible (drop t) fits = either (ltb t (partitions g))
+      (λ l. among a (drop t) _ _ (drop-checks a g (inv .table) (inv .shows) (inv .counted) (inv .good .core .parts) t (ltb-true t (partitions g) l))
+      (give-if (4 ∷ 23 ∷ []) (eqb (liveOf (p t)) 0) 23 none refl tt) (λ e. rw (result-drop a t) tt))
+      (λ l. rw (reply-refused a (drop t) (unread 4) (drop-out a g (inv .table) (inv .shows) (inv .counted) (inv .good .core .parts) t (ltb-false t (partitions g) l))) (refl, refl))

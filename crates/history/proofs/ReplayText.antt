@@ -9,7 +9,7 @@ use Rattle.model.specs.declared.Geometry.{Geometry}
 use Rattle.model.specs.Geometry.{capacity}
 use Rattle.model.specs.Records.{keyAt}
 use Rattle.model.specs.Page.{countOf, valueAt}
-use Rattle.model.specs.Partition.{headOf, live}
+use Rattle.model.specs.Partition.{headOf, liveOf}
 use Rattle.model.specs.Answers.{Areas, Place}
 use Rattle.model.specs.PartitionText.{source, sourcePage, answersWith, entryText, pageText, sourceText, partitionText}
 use Rattle.model.proofs.Tests.{either}
@@ -28,20 +28,20 @@ abbrev pub InPage : Geometry → ℕ → List ℕ → List ℕ → Place → ℕ
 InPage g t p f at q k = Upto (countOf (sourcePage g t p f at q)) (LineAt g t p f at q) k
 
 abbrev pub InSource : Geometry → ℕ → List ℕ → List ℕ → ℕ → ℕ → Type 0
-InSource g t p f i k = Upto (g .pages) (InPage g t p f (source g (headOf p) i)) k
+InSource g t p f i k = Upto (g .pages) (InPage g t p f (source (headOf p) i)) k
 
 abbrev pub InText : Geometry → ℕ → List ℕ → List ℕ → ℕ → Type 0
-InText g t p f k = Upto (live g (headOf p) + 1) (InSource g t p f) k
+InText g t p f k = Upto (liveOf p + 1) (InSource g t p f) k
 
 module _ (g : Geometry) (t : ℕ) (p f : List ℕ) (values : ℕ → Option ℕ)
     (line : (at : Place) (q i : ℕ) → answersWith g t p f at q i ≡ true → Line g t q values (keyAt (sourcePage g t p f at q) i) (valueAt (sourcePage g t p f at q) i))
-    (fits : (i q : ℕ) → q < g .pages → countOf (sourcePage g t p f (source g (headOf p) i) q) ≤ capacity g) (kept : live g (headOf p) ≤ g .kept) where
+    (fits : (i q : ℕ) → q < g .pages → countOf (sourcePage g t p f (source (headOf p) i) q) ≤ capacity g) (kept : liveOf p ≤ g .kept) where
   abbrev State : ℕ → ℕ → ℕ → Areas → History → Type 0
   State i q n b h = At g t values i q n b h
 
-  module _ (i : ℕ) (sources : i ≤ live g (headOf p)) where
+  module _ (i : ℕ) (sources : i ≤ liveOf p) where
     abbrev at : Place
-    at = source g (headOf p) i
+    at = source (headOf p) i
 
     ends-entry : (q n : ℕ) → n < capacity g → (b : Areas) (h : History) → State i q n b h → Ends (entryText g t p f at q (n + 1)) b h (State i q (suc n)) (LineAt g t p f at q n)
     ends-entry q n room b h state = either (answersWith g t p f at q (n + 1))
@@ -59,8 +59,8 @@ module _ (g : Geometry) (t : ℕ) (p f : List ℕ) (values : ℕ → Option ℕ)
     ends-source b h state = rw (source-text g t p f at) (ends-map (λ b′ h′ s. next-source s) (λ k stands. stands)
         (ends-joined (pageText g t p f at) (λ q. State i q 0) (InPage g t p f at) (g .pages) ends-page (g .pages) (omega arith) b h state))
 
-  pub ends-text : (b : Areas) (h : History) → State 0 0 0 b h → Ends (partitionText g t p f) b h (State (live g (headOf p) + 1) 0 0) (InText g t p f)
+  pub ends-text : (b : Areas) (h : History) → State 0 0 0 b h → Ends (partitionText g t p f) b h (State (liveOf p + 1) 0 0) (InText g t p f)
   ends-text b h state =
-      let n : ℕ = live g (headOf p) + 1 in
+      let n : ℕ = liveOf p + 1 in
       rw (partition-text g t p f)
-      (ends-joined (λ i. sourceText g t p f (source g (headOf p) i)) (λ i. State i 0 0) (InSource g t p f) n (λ i l. ends-source i (omega arith)) n (omega arith) b h state)
+      (ends-joined (λ i. sourceText g t p f (source (headOf p) i)) (λ i. State i 0 0) (InSource g t p f) n (λ i l. ends-source i (omega arith)) n (omega arith) b h state)

@@ -11,7 +11,7 @@ use Rattle.model.specs.Bytes.{word}
 use Rattle.model.specs.Search.{isSome}
 use Rattle.model.specs.Geometry.{allowed, stride}
 use Rattle.model.specs.DeleteList.{listedAt}
-use Rattle.model.specs.Partition.{Head, headOf, flushesOf, listedOf, listOf, bufferOf, slot, live as liveIn, isLive, slotBits}
+use Rattle.model.specs.Partition.{Head, headOf, flushesOf, listedOf, listOf, liveOf, bufferOf, slot, isLive, slotBits}
 use Rattle.model.specs.Batch.{batchPage}
 use Rattle.model.proofs.Sizes.{slot-lt}
 use Rattle.model.proofs.Tables.{Entry, find, hasBit}
@@ -36,7 +36,7 @@ pub record ShowsPart (g : Geometry) (t : ℕ) (p f : List ℕ) (s : Part) : Type
   pub long : length p ≡ stride g
   pub words : HeadWords (headOf p)
   pub flushes : flushesOf p ≡ s .flushes
-  pub live : liveIn g (headOf p) ≡ s .live
+  pub live : liveOf p ≡ s .live
   pub list : listEntries (listedOf p) (listOf g p) ≡ s .list
   pub buffer : (q : ℕ) → q < g .pages → ShowsPage g t q (bufferOf g p q) (s .buffer q)
   pub batch : (n : ℕ) → Live s n → (q : ℕ) → q < g .pages → ShowsBatchPage g t n q (batchPage g t f n q) (s .batch n q)
@@ -45,7 +45,7 @@ pub record ShowsPart (g : Geometry) (t : ℕ) (p f : List ℕ) (s : Part) : Type
 -- bytes are shown by their parts: what is asked of each stands here in the order of the fields
 pub shows-laid : {g : Geometry} {t : ℕ} {p f : List ℕ} {s : Part} {h : Head} {l : List ℕ} {bits : ℕ → ℕ → Bool} {bs : ℕ → List ℕ}
     → allowed g ≡ true → Laid g p h l bits bs
-    → HeadWords h → h .flushes ≡ s .flushes → liveIn g h ≡ s .live → listEntries (h .listed) l ≡ s .list
+    → HeadWords h → h .flushes ≡ s .flushes → h .live ≡ s .live → listEntries (h .listed) l ≡ s .list
     → ((q : ℕ) → q < g .pages → ShowsPage g t q (bs q) (s .buffer q))
     → ((n : ℕ) → Live s n → (q : ℕ) → q < g .pages → ShowsBatchPage g t n q (batchPage g t f n q) (s .batch n q))
     → ((n b : ℕ) → Live s n → b < g .bits → bits (slot g n) b ≡ hasBit g (s .batch n) b)
@@ -54,7 +54,7 @@ shows-laid {g} ok at words flushes live list buffer batch filter = record {
   long = at .long;
   words = rw (at .head) words;
   flushes = ap (λ (h : Head). h .flushes) (at .head) ∙ flushes;
-  live = ap (liveIn g) (at .head) ∙ live;
+  live = ap (λ (h : Head). h .live) (at .head) ∙ live;
   list = ap₂ listEntries (ap (λ (h : Head). h .listed) (at .head)) (at .list) ∙ list;
   buffer = λ q l. rw (at .buffer q l) (buffer q l);
   batch = batch;
@@ -63,12 +63,12 @@ shows-laid {g} ok at words flushes live list buffer batch filter = record {
 
 module _ {g : Geometry} {t : ℕ} {p f : List ℕ} {s : Part} (shows : ShowsPart g t p f s) where
   -- a batch is live by the head where it is by the table
-  pub live-by-head : (n : ℕ) → Live s n → isLive g (headOf p) n ≡ true
-  live-by-head n l = bounds-live g (headOf p) n (l .first) (rw (shows .flushes) (l .flushed)) (rw (shows .live, shows .flushes) (l .near))
+  pub live-by-head : (n : ℕ) → Live s n → isLive (headOf p) n ≡ true
+  live-by-head n l = bounds-live (headOf p) n (l .first) (rw (shows .flushes) (l .flushed)) (rw (shows .live, shows .flushes) (l .near))
 
-  pub live-by-table : (n : ℕ) → isLive g (headOf p) n ≡ true → Live s n
+  pub live-by-table : (n : ℕ) → isLive (headOf p) n ≡ true → Live s n
   live-by-table n e =
-      let bounds = live-bounds g (headOf p) n e in
+      let bounds = live-bounds (headOf p) n e in
       record { first = bounds .0; flushed = rw (shows .flushes) at (bounds .1); near = rw (shows .live, shows .flushes) at (bounds .2) }
 
   pub list-count : listedOf p ≡ length (s .list)

@@ -3,12 +3,12 @@ use Prim.Native.Nat.{ℕ}
 use mathlib.Core.Path.{_≡_, refl, ap}
 use mathlib.Core.Option.{none}
 use Rattle.model.specs.Answers.{Areas, Answer, done, found, absent, shown, refused}
-use Rattle.model.specs.Calls.{Call, format, put, get, del, flush, view, count, text, checks, result, reply, effect, after}
-use Rattle.model.proofs.Calls.{result-del, result-format, result-flush, effect-get, effect-view, effect-count, effect-text, after-same}
+use Rattle.model.specs.Calls.{Call, format, put, get, del, flush, view, count, text, drop, checks, result, reply, effect, after}
+use Rattle.model.proofs.Calls.{result-del, result-format, result-flush, result-drop, effect-get, effect-view, effect-count, effect-text, after-same}
 use Rattle.history.specs.History.{History, looking, accepted, heard, note}
 use Rattle.history.specs.Claim.{Fits}
 use Rattle.history.proofs.FromFormat.{outcome}
-use Rattle.history.proofs.InStep.{InStep, format-keeps, flush-keeps}
+use Rattle.history.proofs.InStep.{InStep, format-keeps, flush-keeps, drop-keeps}
 use Rattle.history.proofs.Keyed.{del-keeps, put-result, put-keeps}
 
 module _ (a : Areas) (h : History) (inv : InStep a h) where
@@ -39,3 +39,4 @@ module _ (a : Areas) (h : History) (inv : InStep a h) where
   step (view t q n) fits = looks (view t q n) (λ m. refl) (effect-view a t q n)
   step (count t) fits = looks (count t) (λ n. refl) (effect-count a t)
   step (text t room) fits = looks (text t room) (λ n. refl) (effect-text a t room)
+  step (drop t) fits = unless-refused (drop t) 0 (result-drop a t) (drop-keeps a h inv t)

@@ -13,14 +13,14 @@ use Rattle.model.specs.Geometry.{allowed, capacity}
 use Rattle.model.specs.Keys.{pageOf}
 use Rattle.model.specs.Page.{stored, without}
 use Rattle.model.specs.DeleteList.{listedAt, struck, enlisted}
-use Rattle.model.specs.Partition.{Head, headOf, listedHead, unlistedHead, listedOf, listOf, bufferOf, slotBits, live as liveIn}
+use Rattle.model.specs.Partition.{Head, headOf, listedHead, unlistedHead, listedOf, listOf, liveOf, bufferOf, slotBits}
 use Rattle.model.specs.Put.{unlisted, buffered}
 use Rattle.model.specs.Del.{youngest, stampFor, unbuffered, listedWith}
 use Rattle.model.proofs.Sizes.{sizes, page-of-lt}
 use Rattle.model.proofs.Tables.{Entry, find, store, erase, erase-none}
 use Rattle.model.proofs.Entries.{heldAt}
 use Rattle.model.proofs.ListEntries.{listEntries, entries-struck, entries-enlisted}
-use Rattle.model.proofs.Heads.{HeadWords, words-listed, words-unlisted, live-listed, live-unlisted}
+use Rattle.model.proofs.Heads.{HeadWords, words-listed, words-unlisted}
 use Rattle.model.proofs.Partitions.{modify, modify-at, modify-off, Laid}
 use Rattle.model.proofs.PartitionsCalls.{list-long, laid-buffered, laid-unbuffered, laid-unlisted, laid-listed, not-listed}
 use Rattle.history.proofs.Table.{Part, remade, isEmpty, mustList, enlist, stored as storedPart, deleted as deletedPart, passing as passingOf}
@@ -45,7 +45,7 @@ module _ (g : Geometry) (ok : allowed g ≡ true) (t : ℕ) (p f : List ℕ) (s 
 
   -- the list changed, and its length in the head
   shows-list : (p′ : List ℕ) (h : Head) (l : List ℕ) (es : List Entry) → Laid g p′ h l (slotBits g p) (bufferOf g p)
-      → HeadWords h → h .flushes ≡ headOf p .flushes → liveIn g h ≡ liveIn g (headOf p) → listEntries (h .listed) l ≡ es → ShowsPart g t p′ f (remade s es (s .buffer))
+      → HeadWords h → h .flushes ≡ headOf p .flushes → h .live ≡ liveOf p → listEntries (h .listed) l ≡ es → ShowsPart g t p′ f (remade s es (s .buffer))
   shows-list p′ h l es at words flushes live e =
       shows-laid ok at words (flushes ∙ shows .flushes) (live ∙ shows .live) e (shows .buffer) (shows .batch) (shows .filter)
 
@@ -57,7 +57,7 @@ module _ (g : Geometry) (ok : allowed g ≡ true) (t : ℕ) (p f : List ℕ) (s 
         go : (o : Option ℕ) → listedAt (listedOf p) k (listOf g p) ≡ o → ShowsPart g t (unlisted g k p) f (remade s (erase k (s .list)) (s .buffer))
         go none e = rw (not-listed g k p e, erase-none k (s .list) (list-find shows k ∙ ap (heldAt 4 (listOf g p)) e)) shows
         go (some i) e = shows-list _ (unlistedHead 1 (headOf p)) (struck i (listedOf p) (listOf g p)) _ (laid-unlisted g ok p (shows .long) (shows .words) k i e)
-            (words-unlisted 1 (headOf p) (shows .words)) refl (live-unlisted g 1 (headOf p))
+            (words-unlisted 1 (headOf p) (shows .words)) refl refl
             (entries-struck (listedOf p) (listOf g p) (omega (arith, fits, list-count shows, list-long g ok p (shows .long))) k i e ∙ ap (erase k) (shows .list))
 
   -- the list with the key at its end
@@ -66,7 +66,7 @@ module _ (g : Geometry) (ok : allowed g ≡ true) (t : ℕ) (p f : List ℕ) (s 
   shows-listed k n hk hn room =
       let free : listedOf p < g .list = omega (arith, list-count shows) in
       shows-list _ (listedHead (headOf p)) (enlisted (listedOf p) k n (listOf g p)) _ (laid-listed g ok p (shows .long) (shows .words) free k n)
-      (words-listed (headOf p) (shows .words) (omega (arith, sizes g ok .list-max))) refl (live-listed g (headOf p))
+      (words-listed (headOf p) (shows .words) (omega (arith, sizes g ok .list-max))) refl refl
       (entries-enlisted (listedOf p) k n (listOf g p) hk hn (omega (arith, list-long g ok p (shows .long)))
       ∙ ap (λ (l : List Entry). l ++ (record { key = k; val = n } ∷ [])) (shows .list))
 

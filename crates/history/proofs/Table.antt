@@ -1,4 +1,4 @@
--- A table without bytes: what each partition holds, and what a flush, a put and a del make of it.
+-- A table without bytes: what each partition holds, and what a flush, a drop, a put and a del make of it.
 use Prim.Native.Nat.{ℕ, zero, suc, _+_, _-_, _≤_, _<_, min}
 use mathlib.Core.Bool.{Bool, true, false, cond, not, _&&_}
 use mathlib.Core.List.{List, [], _∷_, _++_}
@@ -59,9 +59,9 @@ due g k p = not (isSome (find k (p .buffer (pageOf g k)))) && eqb (length (p .bu
 unfoldable pub mustList : Geometry → ℕ → Part → Bool
 mustList g k p = not (isSome (find k (p .list))) && not (isEmpty (passing g k p))
 
--- a stamp that leaves the list with flush F + 1
+-- a stamp that leaves the list after F flushes: with flush F + 1 the one K back, with a drop the oldest live one
 abbrev pub expires : ℕ → ℕ → ℕ → Bool
-expires kept F stamp = eqb (stamp + kept) (F + 1)
+expires back F stamp = eqb (stamp + back) (F + 1)
 
 -- the live number after one flush more
 abbrev pub liveAfter : ℕ → ℕ → ℕ
@@ -74,6 +74,16 @@ flushed g p = record {
   list = strike (expires (g .kept) (p .flushes)) (p .list);
   buffer = nothing;
   batch = modify (suc (p .flushes)) (λ old. p .buffer) (p .batch);
+}
+
+-- the oldest live batch taken off
+unfoldable pub dropped : Part → Part
+dropped p = record {
+  flushes = p .flushes;
+  live = p .live - 1;
+  list = strike (expires (p .live) (p .flushes)) (p .list);
+  buffer = p .buffer;
+  batch = p .batch;
 }
 
 unfoldable pub stored : Geometry → ℕ → ℕ → Part → Part

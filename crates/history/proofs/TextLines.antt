@@ -15,7 +15,7 @@ use Rattle.model.specs.Geometry.{allowed, partitions, capacity}
 use Rattle.model.specs.Keys.{partitionOf, pageOf}
 use Rattle.model.specs.Records.{keyAt}
 use Rattle.model.specs.Page.{countOf, valueAt}
-use Rattle.model.specs.Partition.{partition, headOf, live}
+use Rattle.model.specs.Partition.{partition, headOf, liveOf}
 use Rattle.model.specs.Answers.{Areas, Place}
 use Rattle.model.specs.Get.{sought}
 use Rattle.model.specs.PartitionText.{source, sourcePage, answersWith}
@@ -26,7 +26,7 @@ use Rattle.model.proofs.Calls.{result-get, reply-accepted}
 use Rattle.model.proofs.Answering.{answers-with}
 use Rattle.history.specs.History.{Known, History}
 use Rattle.history.specs.Claim.{said, valueOf}
-use Rattle.history.proofs.Totalling.{source-live}
+use Rattle.history.proofs.Totalling.{live-flushed, source-live}
 use Rattle.history.proofs.Checking.{get-checks}
 use Rattle.history.proofs.InStep.{InStep}
 use Rattle.history.proofs.Positions.{IsPosition, Position, AllPositions}
@@ -70,7 +70,7 @@ module _ (a : Areas) (h : History) (inv : InStep a h) (t : ℕ) (inside : t < pa
   pub line : AllPositions h → (at : Place) (q i : ℕ) → answersWith g t p (a .flash) at q i ≡ true
       → Line g t q (λ k. valueOf (h .keys k)) (keyAt (sourcePage g t p (a .flash) at q) i) (valueAt (sourcePage g t p (a .flash) at q) i)
   line positions at q i e =
-      let answered = answers-with g t p (a .flash) at q i e in
+      let answered = answers-with g t p (a .flash) (live-flushed g (inv .shows .ok) t p (a .flash) (inv .table t) (inv .shows .part t inside) (inv .good .core .parts t)) at q i e in
       let k : ℕ = keyAt (sourcePage g t p (a .flash) at q) i in
       let v : ℕ = valueAt (sourcePage g t p (a .flash) at q) i in
       let below : k < 2 ^ 64 = key-fits g (inv .shows .ok) k (rw (answered .partition) inside) in
@@ -78,10 +78,10 @@ module _ (a : Areas) (h : History) (inv : InStep a h) (t : ℕ) (inside : t < pa
       let value : valueOf (h .keys k) ≡ some v = cc in
       record { below = below; partition = answered .partition; page = answered .page; position = position-of (h .keys k) v (positions k) value; value = value }
 
-  pub few-lines : (i q : ℕ) → q < g .pages → countOf (sourcePage g t p (a .flash) (source g (headOf p) i) q) ≤ capacity g
+  pub few-lines : (i q : ℕ) → q < g .pages → countOf (sourcePage g t p (a .flash) (source (headOf p) i) q) ≤ capacity g
   unfolding source
   few-lines i q l =
       let shown = inv .shows .part t inside in
-      either (ltb i (live g (headOf p)))
+      either (ltb i (liveOf p))
       (λ old. rw old (shown .batch _ (source-live g (inv .shows .ok) t p (a .flash) (inv .table t) shown (inv .good .core .parts t) i (ltb-true i _ old)) q l .page .fits))
       (λ new. rw new (shown .buffer q l .fits))

@@ -1,17 +1,18 @@
 -- What one key comes to: its stamp in the list, what each place holds of it by age, and what the history knows of it.
 -- Age 0 is the buffer, age a the batch F + 1 - a.
-use Prim.Native.Nat.{ℕ, zero, suc, _+_, _≤_, _<_}
+use Prim.Native.Nat.{ℕ, zero, suc, _+_, _-_, _≤_, _<_}
 use mathlib.Core.Bool.{true, false≢true}
 use mathlib.Core.Path.{_≡_, refl, sym, _∙_, subst₂, fun-ext}
 use mathlib.Core.Option.{Option, none, some}
 use native.Mathlib.Numerals.{add-one}
 use native.Mathlib.Omega.{arith}
 use native.Mathlib.Decide.{decLe}
+use lib.Dec.{eqb}
 use borrow.Author.Tests.{lt-ltb, le-ltb}
 use Rattle.model.specs.Search.{isSome}
 use Rattle.model.proofs.Tests.{numbers, either}
 use Rattle.model.proofs.Tables.{unless}
-use Rattle.history.specs.History.{Known, older}
+use Rattle.history.specs.History.{Known, older, unlessAged}
 use Rattle.history.proofs.Table.{expires, liveAfter}
 
 -- A listed key is in no place younger than the batch of its stamp. A key that the history knows is in the place of its age, and in no
@@ -60,3 +61,14 @@ module _ (f f′ : ℕ → Option ℕ) (start : f′ 0 ≡ none) (shift : (a : �
         (present {f = f′} {v = v} {a = a + 1} (rw add-one (shift a ∙ here)) (omega arith) (λ b l. later b (λ c q. silent c (omega arith))))
     | no old ↦ rw (older-gone kept v a (omega arith)) (absent (λ b l. later b (λ c q. silent c (omega arith))))
   ]
+
+-- a drop: every place is as old as it was, and the oldest is live no more
+pub told-drop : {live F : ℕ} {m : Option ℕ} {f : ℕ → Option ℕ} {w : Option Known} → 1 ≤ live → Told live F m f w → Told (live - 1) F (unless (expires live F) m) f (unlessAged live w)
+unfolding unlessAged
+told-drop {live} {F} any (listed {s = s} silent) = either (expires live F s)
+    (λ h. simp h (absent (λ b l. silent b (omega numbers))))
+    (λ h. simp h (listed {s = s} silent))
+told-drop {live} {F} any (absent silent) = absent (λ b l. silent b (omega arith))
+told-drop {live} {F} any (present {v = v} {a = a} here fits silent) = either (eqb a live)
+    (λ h. simp h (absent (λ b l. silent b (omega numbers))))
+    (λ h. simp h (present {v = v} {a = a} here (omega numbers) silent))

@@ -1,4 +1,4 @@
--- The entries of a partition, buffer and live batches together: how many there can be, and what a flush, a put and a del make of their number.
+-- The entries of a partition, buffer and live batches together: how many there can be, and what a flush, a drop, a put and a del make of their number.
 use Prim.Native.Nat.{ℕ, zero, suc, _+_, _-_, _*_, _≤_, _<_}
 use mathlib.Core.Bool.{cond}
 use mathlib.Core.Path.{_≡_, refl, sym, _∙_, ap}
@@ -15,7 +15,7 @@ use Rattle.model.specs.Batch.{sum}
 use Rattle.model.proofs.Tests.{numbers, either}
 use Rattle.model.proofs.Sums.{sum-zero, sum-same, sum-first, sum-most}
 use Rattle.model.proofs.Tables.{Entry, find, store, erase, length-store}
-use Rattle.history.proofs.Table.{Part, empty, liveAfter, flushed, stored, deleted}
+use Rattle.history.proofs.Table.{Part, empty, liveAfter, flushed, dropped, stored, deleted}
 use Rattle.history.proofs.Core.{pagesAt, PartOk, flushed-pages}
 use Rattle.history.proofs.Credit.{entriesIn, remade-entries}
 
@@ -26,9 +26,12 @@ entriesAt g s a = sum (g .pages) (λ q. length (pagesAt s a q))
 unfoldable pub entriesAll : Geometry → Part → ℕ
 entriesAll g s = sum (suc (s .live)) (entriesAt g s)
 
--- those that leave with a flush: K batches are live, and the oldest goes
-unfoldable pub droppedIn : Geometry → Part → ℕ
-droppedIn g s = cond (leb (g .kept) (s .live)) (entriesAt g s (g .kept)) 0
+-- those of the oldest live batch; they leave with a flush where K batches are live
+abbrev pub oldestIn : Geometry → Part → ℕ
+oldestIn g s = entriesAt g s (s .live)
+
+unfoldable pub leavingIn : Geometry → Part → ℕ
+leavingIn g s = cond (leb (g .kept) (s .live)) (oldestIn g s) 0
 
 -- the entry that a put adds, and the one that a del takes out of the buffer
 unfoldable pub addedIn : Geometry → ℕ → Part → ℕ
@@ -81,7 +84,7 @@ module _ (g : Geometry) (s : Part) where
           mul-le-mul-right each live,
         ))
 
-    -- a flush shifts every age by one, and what was of age K is dropped
+    -- a flush shifts every age by one, and what was of age K is leaving
     shifted : entriesAll g (flushed g s) ≡ sum (liveAfter (g .kept) (s .live)) (entriesAt g s)
     unfolding entriesAll flushed
     shifted =
@@ -93,8 +96,8 @@ module _ (g : Geometry) (s : Part) where
               (λ a l. sum-same (g .pages) (λ q. length (pagesAt s a q)) (λ q. length (pagesAt (flushed g s) (suc a) q)) (λ q m. ap length (flushed-pages g s q a))),
         )
 
-    pub flushed-all : entriesAll g (flushed g s) + droppedIn g s ≡ entriesAll g s
-    unfolding entriesAll droppedIn sum
+    pub flushed-all : entriesAll g (flushed g s) + leavingIn g s ≡ entriesAll g s
+    unfolding entriesAll leavingIn sum
     flushed-all = either (leb (g .kept) (s .live))
         (λ h.
         let full : s .live ≡ g .kept = omega (numbers, ok .liveKept) in
@@ -103,6 +106,24 @@ module _ (g : Geometry) (s : Part) where
         (λ h.
         let rises : liveAfter (g .kept) (s .live) ≡ suc (s .live) = omega numbers in
         rw (shifted, h, rises) (omega arith))
+
+  -- a drop takes off those of the oldest live batch
+  dropped-pages : (a q : ℕ) → pagesAt (dropped s) a q ≡ pagesAt s a q
+  unfolding dropped
+  dropped-pages zero q = refl
+  dropped-pages (suc a) q = refl
+
+  left : 1 ≤ s .live → entriesAll g (dropped s) ≡ sum (s .live) (entriesAt g s)
+  unfolding entriesAll dropped
+  left any =
+      let again : suc (s .live - 1) ≡ s .live = omega arith in
+      ap (λ (n : ℕ). sum n (entriesAt g (dropped s))) again
+      ∙ sum-same (s .live) (entriesAt g s) (entriesAt g (dropped s))
+      (λ a l. sum-same (g .pages) (λ q. length (pagesAt s a q)) (λ q. length (pagesAt (dropped s) a q)) (λ q m. ap length (dropped-pages a q)))
+
+  pub dropped-all : 1 ≤ s .live → entriesAll g (dropped s) + oldestIn g s ≡ entriesAll g s
+  unfolding entriesAll sum
+  dropped-all any = omega (arith, left any)
 
 -- a put adds one entry to the buffer or none, and a del takes one out or none
 module _ (g : Geometry) (s : Part) (k : ℕ) (inside : pageOf g k < g .pages) where

@@ -8,10 +8,10 @@ use lib.ListN.{length}
 use Rattle.model.specs.declared.Geometry.{Geometry}
 use Rattle.model.specs.Geometry.{partitions, capacity}
 use Rattle.model.specs.Keys.{partitionOf}
-use Rattle.model.specs.Partition.{headOf, flushesOf, bufferOf, live}
-use Rattle.model.specs.Batch.{batchPage, sum, entriesOf}
+use Rattle.model.specs.Partition.{flushesOf, liveOf, bufferOf}
+use Rattle.model.specs.Batch.{sum, entriesOf, batchEntries}
 use Rattle.model.specs.Answers.{Areas, Answer, done, found, absent, shown, refused}
-use Rattle.model.specs.Calls.{Call, format, put, get, del, flush, view, count, text, geometryIn, partitionIn, keyPartition, reply, run}
+use Rattle.model.specs.Calls.{Call, format, put, get, del, flush, view, count, text, drop, geometryIn, partitionIn, keyPartition, reply, run}
 use Rattle.history.specs.History.{Known, History, events, remember}
 use Rattle.history.specs.Reads.{readBy, LiveFalling, Follows}
 
@@ -25,6 +25,7 @@ Fits (flush t) = Unit {0}
 Fits (view t q n) = Unit {0}
 Fits (count t) = Unit {0}
 Fits (text t room) = Unit {0}
+Fits (drop t) = Unit {0}
 
 abbrev pub AllFit : List Call → Type 0
 AllFit [] = Unit {0}
@@ -65,7 +66,7 @@ pub record Right (a : Areas) (h : History) (k : ℕ) : Type 0 where
   pub reads : readsOf (reply a (get k)) ≤ h .live (partitionOf (h .geometry) k)
   pub counts : readsOf (reply a (get k)) ≡ length (readBy a k)
   pub follows : Follows a k (reply a (get k)) (readBy a k)
-  pub batches : LiveFalling (geometryIn a) (keyPartition a k) (suc (flushesOf (keyPartition a k))) (readBy a k)
+  pub batches : LiveFalling (keyPartition a k) (suc (flushesOf (keyPartition a k))) (readBy a k)
 
 -- And put pages × E is at most Q × puts.
 pub record Holds (a : Areas) (h : History) : Type 0 where
@@ -84,7 +85,7 @@ Demand3 = FromFormat Holds
 
 -- The page counts of a partition's buffer pages and of its live batches' pages in flash, together. Batch F − i is live for i below the live number.
 unfoldable pub entriesHeld : Geometry → ℕ → List ℕ → List ℕ → ℕ
-entriesHeld g t p f = entriesOf (bufferOf g p) (g .pages) + sum (live g (headOf p)) (λ i. entriesOf (batchPage g t f (flushesOf p - i)) (g .pages))
+entriesHeld g t p f = entriesOf (bufferOf g p) (g .pages) + sum (liveOf p) (λ i. batchEntries g t f (flushesOf p - i))
 
 -- A count of any partition is accepted, and answers that.
 -- Document 02: "Head bytes 8 to 11 hold the total, from a format on always equal to the sum of the page counts."

@@ -1,5 +1,5 @@
 -- "The history rule": what is known of a table from the calls' arguments, from which of them were refused, and from the pages that puts wrote.
-use Prim.Native.Nat.{ℕ, _+_, min}
+use Prim.Native.Nat.{ℕ, _+_, _-_, min}
 use mathlib.Core.Bool.{cond}
 use mathlib.Core.List.{List, [], _∷_}
 use mathlib.Core.Option.{Option, none, some}
@@ -7,7 +7,7 @@ use lib.Dec.{eqb, ltb}
 use Rattle.model.specs.declared.Geometry.{Geometry}
 use Rattle.model.specs.Keys.{partitionOf}
 use Rattle.model.specs.Answers.{Areas, Answer, done, found, absent, shown, refused}
-use Rattle.model.specs.Calls.{Call, format, put, get, del, flush, view, count, text, reply, after}
+use Rattle.model.specs.Calls.{Call, format, put, get, del, flush, view, count, text, drop, reply, after}
 
 -- of a key: its value and its age
 pub record Known : Type 0 where
@@ -42,6 +42,21 @@ aged t h = record {
   putPages = h .putPages;
 }
 
+-- a key, unless it is of this age
+unfoldable pub unlessAged : ℕ → Option Known → Option Known
+unlessAged age none = none
+unlessAged age (some w) = cond (eqb (w .age) age) none (some w)
+
+-- Document 02: "an accepted drop forgets the partition's keys whose age is the live number, then lowers that number by 1."
+abbrev pub lowered : ℕ → History → History
+lowered t h = record {
+  geometry = h .geometry;
+  keys = λ k. cond (eqb (partitionOf (h .geometry) k) t) (unlessAged (h .live t) (h .keys k)) (h .keys k);
+  live = λ u. cond (eqb u t) (h .live u - 1) (h .live u);
+  puts = h .puts;
+  putPages = h .putPages;
+}
+
 -- the key with a value and an age, or forgotten
 abbrev pub withKey : ℕ → Option Known → History → History
 withKey k w h = record {
@@ -57,13 +72,14 @@ abbrev pub counted : ℕ → History → History
 counted n h = record { geometry = h .geometry; keys = h .keys; live = h .live; puts = h .puts + 1; putPages = h .putPages + n }
 
 -- What the history is fed: the calls' arguments and, of their answers, only whether a call was refused and how many pages a put wrote.
---     accepted: formatted geometry, putting key value pages, deleting key, flushing partition, looking (get, view, count, text)
+--     accepted: formatted geometry, putting key value pages, deleting key, flushing partition, dropping partition, looking (get, view, count, text)
 --     refused: turnedDown
 pub data Event : Type 0 where
   formatted : Geometry → Event
   putting : ℕ → ℕ → ℕ → Event
   deleting : ℕ → Event
   flushing : ℕ → Event
+  dropping : ℕ → Event
   looking : Event
   turnedDown : Event
 
@@ -77,6 +93,7 @@ accepted (flush t) n = flushing t
 accepted (view t q m) n = looking
 accepted (count t) n = looking
 accepted (text t room) n = looking
+accepted (drop t) n = dropping t
 
 abbrev pub heard : Call → Answer → Event
 heard c (done n) = accepted c n
@@ -93,6 +110,7 @@ note h (putting k v n) =
     counted n (withKey k (some (record { value = v; age = 0 })) (cond (eqb n 0) h (aged (partitionOf (h .geometry) k) h)))
 note h (deleting k) = withKey k none h
 note h (flushing t) = aged t h
+note h (dropping t) = lowered t h
 note h looking = h
 note h turnedDown = h
 

@@ -33,9 +33,9 @@ abbrev pub readBy : Areas → ℕ → List ℕ
 readBy a k = batchesRead (geometryIn a) k (keyPartition a k) (a .flash)
 
 -- live batches of the partition with the bytes p, each below the one before, all below `high`: none stands twice
-abbrev pub LiveFalling : Geometry → List ℕ → ℕ → List ℕ → Type 0
-LiveFalling g p high [] = Unit {0}
-LiveFalling g p high (n ∷ ns) = (n < high) × (isLive g (headOf p) n ≡ true) × LiveFalling g p n ns
+abbrev pub LiveFalling : List ℕ → ℕ → List ℕ → Type 0
+LiveFalling p high [] = Unit {0}
+LiveFalling p high (n ∷ ns) = (n < high) × (isLive (headOf p) n ≡ true) × LiveFalling p n ns
 
 -- the filter of batch n passes the key
 abbrev pub isPassed : Areas → ℕ → ℕ → Bool

@@ -1,4 +1,4 @@
-// The eight calls on memory and flash of any length and content. Each but format opens the table first; what it does then stands in the crate of its name.
+// The nine calls on memory and flash of any length and content. Each but format opens the table first; what it does then stands in the crate of its name.
 ghost use denote.Ref.{ptr};
 ghost use mathlib.Core.Path.{_≡_};
 ghost use lib.ListN.{length};
@@ -90,6 +90,18 @@ pub fn text<'a>(memory: &'a [u8], flash: &'a [u8], partition: u32, text: &mut [u
     }
     let g = opening::geometry_of(memory);
     text::call(memory, flash, g, partition, text)
+}
+
+// The partition's oldest live batch is live no more: its keys are found no more, unless a younger batch or the buffer has them.
+pub fn drop(memory: &mut [u8], flash: &[u8], partition: u32) -> Written
+    ensures { λ r. ⌜ Performs (Call.drop partition) (now (memory .entry)) (now (flash .entry)) (written r) (now (memory .exit)) (now (flash .entry)) ⌝ }
+{
+    let number = opening::check(memory, flash);
+    if number != 0 {
+        return Written::Refused(Refusal { number, reads: 0 });
+    }
+    let g = opening::geometry_of(memory);
+    drop::call(memory, flash, g, partition)
 }
 
 // Where one page stands, in memory or in flash, or the refusal with its reads.

@@ -7,7 +7,7 @@ ghost use Rattle.model.specs.Geometry.{listAt, listSize};
 ghost use Rattle.model.specs.DeleteList.{listedAt, enlisted, struck, unexpired};
 ghost use Rattle.model.specs.Partition.{headOf, listedOf, listOf};
 ghost use Rattle.model.specs.Refusals.{headOverfull};
-ghost use Rattle.model.specs.Flush.{delisted};
+ghost use Rattle.model.specs.Batch.{delisted};
 ghost use Rattle.records.specs.Found.{foundAt};
 ghost use Rattle.partition.specs.Ready.{Whole};
 use head::Head;
@@ -46,12 +46,12 @@ pub fn enlist(part: &mut [u8], g: Geometry, n: usize, key: u64, stamp: u32)
     deletes::enlist(&mut part[16..e], n, key, stamp);
 }
 
-// The entries that expire leave; tells how many stay.
-pub fn expire(part: &mut [u8], g: Geometry, flushes: u32, listed: u32) -> usize
+// The entries stamped flushes + 1 - back leave; tells how many stay.
+pub fn expire(part: &mut [u8], g: Geometry, back: u32, flushes: u32, listed: u32) -> usize
     requires { ⌜ Whole g (now part) ⌝ }
     requires { ⌜ listed ≤ g .list ⌝ }
-    ensures { λ r. ⌜ (now (part .exit) ≡ delisted g flushes listed (now (part .entry))) × (r ≡ unexpired (g .kept) flushes listed (listOf g (now (part .entry)))) ⌝ }
+    ensures { λ r. ⌜ (now (part .exit) ≡ delisted g back flushes listed (now (part .entry))) × (r ≡ unexpired back flushes listed (listOf g (now (part .entry)))) ⌝ }
 {
     let e = 16 + 16 * g.list as usize;
-    deletes::expire(&mut part[16..e], listed as usize, g.kept, flushes)
+    deletes::expire(&mut part[16..e], listed as usize, back, flushes)
 }

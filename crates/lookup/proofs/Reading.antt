@@ -15,7 +15,7 @@ use Rattle.model.specs.Keys.{mixed, partitionOf, pageOf}
 use Rattle.model.specs.Records.{keyAt}
 use Rattle.model.specs.Page.{countOf, expected}
 use Rattle.model.specs.Filter.{passes}
-use Rattle.model.specs.Partition.{headOf, flushesOf, slot, live, slotBits, batchPasses, passing, passingFrom}
+use Rattle.model.specs.Partition.{flushesOf, liveOf, slot, slotBits, batchPasses, passing, passingFrom}
 use Rattle.model.specs.Answers.{Answer, found, absent, refused, tally, batch}
 use Rattle.model.specs.Get.{hitIn, readThrough}
 use Rattle.model.proofs.Passing.{pass-take, pass-skip, pass-end, batch-asked, passing-from}
@@ -42,7 +42,7 @@ module _ (g : Geometry) (k : ℕ) (p f : List ℕ) where
   abbrev pub AtBatch : ℕ → ℕ → ℕ → Type 0
   AtBatch count n reads = whole ≡ readThrough g k f (passingFrom g k p count n) reads
 
-  pub at-start : (count n : ℕ) → count ≡ live g (headOf p) → n ≡ flushesOf p → AtBatch count n 0
+  pub at-start : (count n : ℕ) → count ≡ liveOf p → n ≡ flushesOf p → AtBatch count n 0
   at-start count n ec en = rw (passing-from g k p, ec, en)
 
   -- the filter that is asked is that of batch n

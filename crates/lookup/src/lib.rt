@@ -31,7 +31,7 @@ pub fn read_through(part: &[u8], flash: &[u8], g: Geometry, key: u64) -> Answer
     let q = keys::page_of(g, key);
     let head = Head::read(part);
     let mut answer = Answer::Absent(Tally { reads: 0 });
-    let mut count = head.live(g);
+    let mut count = head.live;
     let mut next = head.flushes;
     let mut slot = next % g.kept;
     let mut reads: u32 = 0;

@@ -25,7 +25,8 @@ use Rattle.model.specs.Del.{delChecks, deleted}
 use Rattle.model.specs.View.{viewChecks, pageShown, viewed}
 use Rattle.model.specs.Count.{countChecks}
 use Rattle.model.specs.PartitionText.{partitionText, textChecks}
-use Rattle.model.specs.Calls.{Call, format, put, get, del, flush, view, count, text, geometryIn, keyPartition, checks, result, reply, effect, unlessRefused, after, textLeft}
+use Rattle.model.specs.Drop.{dropChecks, dropIn}
+use Rattle.model.specs.Calls.{Call, format, put, get, del, flush, view, count, text, drop, geometryIn, keyPartition, checks, result, reply, effect, unlessRefused, after, textLeft}
 use Rattle.model.proofs.Tests.{neither}
 use Rattle.model.proofs.Checks.{refuse-none, position-not-0, put-accepted}
 
@@ -114,6 +115,7 @@ Opens (flush t) = Unit {0}
 Opens (view t q n) = Unit {0}
 Opens (count t) = Unit {0}
 Opens (text t room) = Unit {0}
+Opens (drop t) = Unit {0}
 
 pub stopped : (a : Areas) (r : Refusal) → ((later : Option Refusal) → unopened a later ≡ some r) → (c : Call) → Opens c → checks a c ≡ some r
 unfolding checks
@@ -125,6 +127,7 @@ stopped a r always (flush t) o = always _
 stopped a r always (view t q n) o = always _
 stopped a r always (count t) o = always _
 stopped a r always (text t room) o = always _
+stopped a r always (drop t) o = always _
 
 -- a put of 0 is accepted on no areas
 pub put-not-0 : (a : Areas) (k : ℕ) → checks a (put k 0) ≡ none → ⊥
@@ -165,6 +168,10 @@ module _ (a : Areas) (g : Geometry) (own : geometryIn a ≡ g) where
     pub checks-text : (t room : ℕ) → checks a (text t room) ≡ textChecks g t room (partition g t (a .memory)) (a .flash)
     unfolding checks
     checks-text t room = opens _ ∙ rw own
+
+    pub checks-drop : (t : ℕ) → checks a (drop t) ≡ dropChecks g t (partition g t (a .memory)) (a .flash)
+    unfolding checks
+    checks-drop t = opens _ ∙ rw own
 
   pub result-put : (k v : ℕ) (b : Bool) → due g k (partition g (partitionOf g k) (a .memory)) ≡ b → result a (put k v) ≡ done (cond b (g .pages) 0)
   unfolding result
@@ -213,9 +220,17 @@ module _ (a : Areas) (g : Geometry) (own : geometryIn a ≡ g) where
   unfolding effect
   effect-flush t = rw own
 
+  pub effect-drop : (t : ℕ) → effect a (drop t) ≡ changedAt t (dropIn g t (a .flash)) (a .flash)
+  unfolding effect
+  effect-drop t = rw own
+
 pub result-del : (a : Areas) (k : ℕ) → result a (del k) ≡ done 0
 unfolding result
 result-del a k = refl
+
+pub result-drop : (a : Areas) (t : ℕ) → result a (drop t) ≡ done 0
+unfolding result
+result-drop a t = refl
 
 pub result-format : (a : Areas) (g : Geometry) → result a (format g) ≡ done 0
 unfolding result

@@ -13,8 +13,8 @@ use Rattle.model.specs.Search.{firstFrom, isSome, anyFrom}
 use Rattle.model.specs.Geometry.{allowed, partitions, capacity, memoryNeed, flashNeed}
 use Rattle.model.specs.Keys.{partitionOf, pageOf}
 use Rattle.model.specs.Page.{countOf, searched, added, taken}
-use Rattle.model.specs.Partition.{headOf, flushesOf, listedOf, bufferOf, isLive}
-use Rattle.model.specs.Batch.{failedHead, dropped}
+use Rattle.model.specs.Partition.{headOf, flushesOf, listedOf, liveOf, bufferOf, isLive, oldest}
+use Rattle.model.specs.Batch.{failedPage, failedHead, leaving}
 use Rattle.model.specs.Answers.{Areas, Refusal, unread}
 use Rattle.model.specs.Refusals.{refuseIf, refuseHead, headOverfull, pageOverfull, keyOverfull, somePageOverfull, totalOut, lastFlush}
 use Rattle.model.specs.Format.{formatChecks}
@@ -22,6 +22,7 @@ use Rattle.model.specs.Flush.{inUse, dueChecks, flushChecks, pageChecks}
 use Rattle.model.specs.Put.{noPosition, due, appends, putChecks}
 use Rattle.model.specs.Get.{getChecks}
 use Rattle.model.specs.Del.{isListed, stampFor, removes, delChecks}
+use Rattle.model.specs.Drop.{oldestEntries, dropChecks}
 use Rattle.model.specs.View.{viewChecks}
 use Rattle.model.specs.Count.{countChecks}
 use Rattle.model.specs.PartitionText.{partitionText, someBatchFails, textChecks}
@@ -219,21 +220,21 @@ module _ (g : Geometry) (t more : ℕ) (p f : List ℕ) where
 
   module _ (number : flushesOf p ≡ lastFlush → ⊥) where
     -- with a flush number left
-    pub due-read : dueChecks g t more p f ≡ refuseHead (failedHead g t p f) (refuseIf (totalOut g more (dropped g t p f) (headOf p)) 12 none)
+    pub due-read : dueChecks g t more p f ≡ refuseHead (failedHead g t p f) (refuseIf (totalOut g more (leaving g t p f) (headOf p)) 12 none)
     unfolding dueChecks
     due-read = rw (ne-eqb (flushesOf p) lastFlush number)
 
-  pub due-last : failedHead g t p f ≡ none → totalOut g more (dropped g t p f) (headOf p) ≡ false → dueChecks g t more p f ≡ refuseIf (eqb (flushesOf p) lastFlush) 16 none
+  pub due-last : failedHead g t p f ≡ none → totalOut g more (leaving g t p f) (headOf p) ≡ false → dueChecks g t more p f ≡ refuseIf (eqb (flushesOf p) lastFlush) 16 none
   unfolding dueChecks
   due-last heads e = rw (heads, e)
 
   pub due-accepted : dueChecks g t more p f ≡ none
-      → (eqb (flushesOf p) lastFlush ≡ false) × (failedHead g t p f ≡ none) × (totalOut g more (dropped g t p f) (headOf p) ≡ false)
+      → (eqb (flushesOf p) lastFlush ≡ false) × (failedHead g t p f ≡ none) × (totalOut g more (leaving g t p f) (headOf p) ≡ false)
   unfolding dueChecks
   due-accepted e =
       let one = refuse-none (eqb (flushesOf p) lastFlush) 16 _ e in
       let two = heads-none (failedHead g t p f) _ (one .1) in
-      (one .0, two .0, refuse-none (totalOut g more (dropped g t p f) (headOf p)) 12 none (two .1) .0)
+      (one .0, two .0, refuse-none (totalOut g more (leaving g t p f) (headOf p)) 12 none (two .1) .0)
 
 -- ---- flush: 4, 12, 15, and what a flush checks that is due
 module _ (g : Geometry) (t : ℕ) (p f : List ℕ) where
@@ -265,6 +266,37 @@ module _ (g : Geometry) (t : ℕ) (p f : List ℕ) where
       let three = refuse-none (somePageOverfull g p) 12 _ (two .1) in
       let four = refuse-none (not (inUse g p)) 15 _ (three .1) in
       (ltb-true t (partitions g) (not-false _ (one .0)), two .0, three .0, not-false _ (four .0), four .1)
+
+-- ---- drop: 4, 12, 23, 13, 12
+module _ (g : Geometry) (t : ℕ) (p f : List ℕ) where
+  pub drop-4 : partitions g ≤ t → dropChecks g t p f ≡ some (unread 4)
+  unfolding dropChecks
+  drop-4 l = rw (le-ltb t (partitions g) l)
+
+  module _ (below : t < partitions g) where
+    pub drop-12 : headOverfull g (headOf p) ≡ true → dropChecks g t p f ≡ some (unread 12)
+    unfolding dropChecks
+    drop-12 e = rw (lt-ltb t (partitions g) below, e)
+
+    module _ (head : headOverfull g (headOf p) ≡ false) where
+      pub drop-23 : liveOf p ≡ 0 → dropChecks g t p f ≡ some (unread 23)
+      unfolding dropChecks
+      drop-23 e = rw (lt-ltb t (partitions g) below, head, eq-eqb (liveOf p) 0 e)
+
+      -- with a live batch
+      pub drop-read : (liveOf p ≡ 0 → ⊥) → dropChecks g t p f ≡ refuseHead (failedPage g t f (oldest (headOf p))) (refuseIf (totalOut g 0 (oldestEntries g t p f) (headOf p)) 12 none)
+      unfolding dropChecks
+      drop-read e = rw (lt-ltb t (partitions g) below, head, ne-eqb (liveOf p) 0 e)
+
+  pub drop-accepted : dropChecks g t p f ≡ none
+      → (t < partitions g) × (headOverfull g (headOf p) ≡ false) × (eqb (liveOf p) 0 ≡ false) × (totalOut g 0 (oldestEntries g t p f) (headOf p) ≡ false)
+  unfolding dropChecks
+  drop-accepted e =
+      let one = refuse-none (not (ltb t (partitions g))) 4 _ e in
+      let two = refuse-none (headOverfull g (headOf p)) 12 _ (one .1) in
+      let three = refuse-none (eqb (liveOf p) 0) 23 _ (two .1) in
+      let four = heads-none (failedPage g t f (oldest (headOf p))) _ (three .1) in
+      (ltb-true t (partitions g) (not-false _ (one .0)), two .0, three .0, refuse-none (totalOut g 0 (oldestEntries g t p f) (headOf p)) 12 none (four .1) .0)
 
 -- ---- one page of a flush: 4, 16
 module _ (g : Geometry) (t q : ℕ) (p : List ℕ) where
@@ -337,6 +369,6 @@ module _ (g : Geometry) (t q n : ℕ) (p : List ℕ) where
       view-12-page z e = rw (lt-ltb t (partitions g) below, lt-ltb q (g .pages) page, head, eq-eqb n 0 z, e)
 
       -- with what fits, only a live batch can be wanting
-      pub view-last : eqb n 0 && pageOverfull g p q ≡ false → viewChecks g t q n p ≡ refuseIf (not (eqb n 0) && not (isLive g (headOf p) n)) 17 none
+      pub view-last : eqb n 0 && pageOverfull g p q ≡ false → viewChecks g t q n p ≡ refuseIf (not (eqb n 0) && not (isLive (headOf p) n)) 17 none
       unfolding viewChecks
       view-last e = rw (lt-ltb t (partitions g) below, lt-ltb q (g .pages) page, head, e)

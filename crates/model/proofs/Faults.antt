@@ -5,7 +5,7 @@ use mathlib.Core.List.{List, [], _∷_, _++_}
 use Rattle.model.specs.Bytes.{zeros}
 use Rattle.model.specs.Geometry.{G}
 use Rattle.model.specs.Answers.{Answer, buffer, batch, tally, done, found, absent, refused}
-use Rattle.model.specs.Calls.{Call, format, put, get, del, flush, run, replies}
+use Rattle.model.specs.Calls.{Call, format, put, get, del, flush, count, drop, run, replies}
 use Rattle.model.proofs.Computing.{computing}
 
 -- what these calls answer after a format
@@ -58,3 +58,9 @@ full-list = refl
 own-filter : answers (batchOf 10 ++ another ++ batchOf 12 ++ (get 1 ∷ [])) ≡ batchOf-done ++ batchOf-done ++ batchOf-done ++ (found 12 (tally 1) (batch 3) ∷ [])
 unfolding computing
 own-filter = refl
+
+-- A drop takes the oldest batch off, with its two entries, and with the next one goes the list entry that is stamped with it: the place is free again.
+dropping : answers (put 1 10 ∷ put 2 20 ∷ flush 0 ∷ [] ++ another ++ (drop 0 ∷ get 1 ∷ count 0 ∷ del 20 ∷ drop 0 ∷ count 0 ∷ []) ++ batchOf 11 ++ (del 1 ∷ drop 0 ∷ drop 0 ∷ []))
+    ≡ done 0 ∷ batchOf-done ++ batchOf-done ++ (done 0 ∷ absent (tally 0) ∷ done 1 ∷ done 0 ∷ done 0 ∷ done 0 ∷ []) ++ batchOf-done ++ (done 0 ∷ done 0 ∷ refused 23 0 ∷ [])
+unfolding computing
+dropping = refl

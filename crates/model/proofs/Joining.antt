@@ -11,7 +11,7 @@ use Rattle.model.specs.declared.Geometry.{Geometry}
 use Rattle.model.specs.Geometry.{allowed, capacity}
 use Rattle.model.specs.Records.{keyAt}
 use Rattle.model.specs.Page.{countOf, valueAt}
-use Rattle.model.specs.Partition.{headOf, live}
+use Rattle.model.specs.Partition.{headOf, liveOf}
 use Rattle.model.specs.Batch.{sum, entriesOf}
 use Rattle.model.specs.Answers.{Place}
 use Rattle.model.specs.PartitionText.{putText, joined, source, sourcePage, answersWith, entryText, pageText, sourceText, partitionText}
@@ -98,7 +98,7 @@ module _ (g : Geometry) (t : ℕ) (p f : List ℕ) where
     unfolding sourceText
     source-text = refl
 
-  pub partition-text : partitionText g t p f ≡ joined (live g (headOf p) + 1) (λ i. sourceText g t p f (source g (headOf p) i))
+  pub partition-text : partitionText g t p f ≡ joined (liveOf p + 1) (λ i. sourceText g t p f (source (headOf p) i))
   unfolding partitionText
   partition-text = refl
 
@@ -113,8 +113,8 @@ module _ (g : Geometry) (t : ℕ) (p f : List ℕ) where
     source-short : length (sourceText g t p f at) ≤ 48 * entriesOf (sourcePage g t p f at) (g .pages)
     source-short = rw (source-text at) (joined-sum (g .pages) 48 (pageText g t p f at) (λ q. countOf (sourcePage g t p f at q)) (λ q l. page-short q))
 
-  pub text-short : length (partitionText g t p f) ≤ 48 * sum (live g (headOf p) + 1) (λ i. entriesOf (sourcePage g t p f (source g (headOf p) i)) (g .pages))
-  text-short = rw partition-text (joined-sum (live g (headOf p) + 1) 48 (λ i. sourceText g t p f (source g (headOf p) i)) (λ i. entriesOf (sourcePage g t p f (source g (headOf p) i)) (g .pages)) (λ i l. source-short (source g (headOf p) i)))
+  pub text-short : length (partitionText g t p f) ≤ 48 * sum (liveOf p + 1) (λ i. entriesOf (sourcePage g t p f (source (headOf p) i)) (g .pages))
+  text-short = rw partition-text (joined-sum (liveOf p + 1) 48 (λ i. sourceText g t p f (source (headOf p) i)) (λ i. entriesOf (sourcePage g t p f (source (headOf p) i)) (g .pages)) (λ i l. source-short (source (headOf p) i)))
 
   -- ---- and where the pages count no more entries than they hold
   module _ (ok : allowed g ≡ true) where
@@ -125,9 +125,5 @@ module _ (g : Geometry) (t : ℕ) (p f : List ℕ) where
       pub source-most : ((q : ℕ) → q < g .pages → countOf (sourcePage g t p f at q) ≤ capacity g) → length (sourceText g t p f at) ≤ 783360
       source-most fits = omega (arith, ap length (source-text at), sizes g ok .pages-max, joined-most (g .pages) 12240 (pageText g t p f at) (λ q l. page-most q (fits q l)))
 
-    live-most : live g (headOf p) ≤ 32
-    unfolding live
-    live-most = omega (arith, sizes g ok .kept-max)
-
-    pub text-most : ((i q : ℕ) → i ≤ live g (headOf p) → q < g .pages → countOf (sourcePage g t p f (source g (headOf p) i) q) ≤ capacity g) → length (partitionText g t p f) ≤ 25850880
-    text-most fits = omega (arith, ap length partition-text, live-most, joined-most (live g (headOf p) + 1) 783360 (λ i. sourceText g t p f (source g (headOf p) i)) (λ i l. source-most (source g (headOf p) i) (λ q b. fits i q (omega arith) b)))
+    pub text-most : liveOf p ≤ g .kept → ((i q : ℕ) → i ≤ liveOf p → q < g .pages → countOf (sourcePage g t p f (source (headOf p) i) q) ≤ capacity g) → length (partitionText g t p f) ≤ 25850880
+    text-most kept fits = omega (arith, ap length partition-text, sizes g ok .kept-max, joined-most (liveOf p + 1) 783360 (λ i. sourceText g t p f (source (headOf p) i)) (λ i l. source-most (source (headOf p) i) (λ q b. fits i q (omega arith) b)))

@@ -12,7 +12,9 @@ use Rattle.model.specs.DeleteList.{listedAt, enlisted, struck, expired}
 use Rattle.model.specs.Filter.{withBit, withBits, withEntries, withPages, filterFor}
 use Rattle.model.specs.Partition.{Head, withHead, totalled, listedOf, listOf}
 use Rattle.model.specs.Format.{emptiedPages, emptiedPartitions, formatted}
-use Rattle.model.specs.Flush.{filtered, delisted, flushed, withBatchPage, withBatch}
+use Rattle.model.specs.Batch.{delisted}
+use Rattle.model.specs.Flush.{filtered, flushed, withBatchPage, withBatch}
+use Rattle.model.specs.Drop.{dropped}
 use Rattle.model.specs.Put.{unlistedAt, unlisted, buffered}
 use Rattle.model.specs.Del.{unbuffered, listedWith}
 use Rattle.model.specs.declared.Geometry.{Geometry}
@@ -126,13 +128,17 @@ pub length-filtered : (g : Geometry) (p : List ℕ) → length (filtered g p) �
 unfolding filtered
 length-filtered g p = simp length-within
 
-pub length-delisted : (g : Geometry) (flushes listed : ℕ) (p : List ℕ) → length (delisted g flushes listed p) ≡ length p
+pub length-delisted : (g : Geometry) (back flushes listed : ℕ) (p : List ℕ) → length (delisted g back flushes listed p) ≡ length p
 unfolding delisted
-length-delisted g flushes listed p = simp length-within
+length-delisted g back flushes listed p = simp length-within
 
 pub length-flushed : (g : Geometry) (t : ℕ) (p : List ℕ) → length (flushed g t p) ≡ length p
 unfolding flushed
 length-flushed g t p = simp (length-withHead, length-emptiedPages, length-delisted, length-filtered)
+
+pub length-dropped : (g : Geometry) (less : ℕ) (p : List ℕ) → length (dropped g less p) ≡ length p
+unfolding dropped
+length-dropped g less p = simp (length-withHead, length-delisted)
 
 pub length-withBatchPage : (g : Geometry) (t : ℕ) (p : List ℕ) (q : ℕ) (f : List ℕ) → length (withBatchPage g t p q f) ≡ length f
 unfolding withBatchPage

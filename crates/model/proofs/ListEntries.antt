@@ -44,10 +44,13 @@ module _ (n : ℕ) (l : List ℕ) (fits : 16 * n ≤ length l) where
       rw (← (staying-one i n 0 (f .low) (f .high))) (entries-closedUp 4 (omega arith) (eqb i) 0 l n (omega arith)) ∙ remaining-first 4 k i n 0 l e
 
   -- the entries that expire removed
-  pub entries-expired : (kept flushes : ℕ) → listEntries (unexpired kept flushes n l) (expired kept flushes n l) ≡ strike (λ s. eqb (s + kept) (flushes + 1)) (listEntries n l)
+  pub entries-expired : (back flushes : ℕ) → listEntries (unexpired back flushes n l) (expired back flushes n l) ≡ strike (λ s. eqb (s + back) (flushes + 1)) (listEntries n l)
   unfolding expired unexpired
-  entries-expired kept flushes = entries-closedUp 4 (omega arith) (expiring kept flushes l) 0 l n (omega arith) ∙ remaining-strike (λ s. eqb (s + kept) (flushes + 1)) n 0 l
+  entries-expired back flushes = entries-closedUp 4 (omega arith) (expiring back flushes l) 0 l n (omega arith) ∙ remaining-strike (λ s. eqb (s + back) (flushes + 1)) n 0 l
 
-pub unexpired-le : (kept flushes n : ℕ) (l : List ℕ) → unexpired kept flushes n l ≤ n
+pub unexpired-le : (back flushes n : ℕ) (l : List ℕ) → unexpired back flushes n l ≤ n
 unfolding unexpired
-unexpired-le kept flushes n l = staying-le (expiring kept flushes l) n 0
+unexpired-le back flushes n l = staying-le (expiring back flushes l) n 0
+
+pub stay-at-most : {s : ℕ} (back flushes n : ℕ) (l : List ℕ) → s ≡ unexpired back flushes n l → s ≤ n
+stay-at-most back flushes n l e = rw e (unexpired-le back flushes n l)

@@ -15,7 +15,7 @@ use Rattle.model.proofs.Parts.{lt-or-ge}
 use Rattle.model.specs.Geometry.{between}
 use Rattle.model.specs.Text.{text, past, leading, isPlain, numberFrom, Figure, figure}
 use Rattle.model.specs.Calls.{Call}
-use Rattle.model.specs.Session.{then, orElse, numberPast, atEnd, ending, wide, narrow, putLine, getLine, delLine, flushLine, countLine, formatLine, callOf}
+use Rattle.model.specs.Session.{then, orElse, numberPast, atEnd, ending, wide, narrow, putLine, getLine, delLine, flushLine, countLine, dropLine, formatLine, callOf}
 use Rattle.model.proofs.Tests.{both-true}
 use Rattle.model.proofs.Numbers.{figure-read}
 
@@ -110,6 +110,10 @@ count-length : (xs : List ℕ) → AtMost 18 xs (countLine xs)
 unfolding countLine
 count-length xs = narrow-then "(count " 1 xs _ (λ k. at-end ")" (k .rest) _)
 
+drop-length : (xs : List ℕ) → AtMost 17 xs (dropLine xs)
+unfolding dropLine
+drop-length xs = narrow-then "(drop " 1 xs _ (λ k. at-end ")" (k .rest) _)
+
 format-length : (xs : List ℕ) → AtMost 138 xs (formatLine xs)
 unfolding formatLine
 format-length xs =
@@ -134,7 +138,8 @@ call-length xs =
     (or-else 138 26 xs _ _ (omega arith) (del-length xs)
     (or-else 138 18 xs _ _ (omega arith) (flush-length xs)
     (or-else 138 18 xs _ _ (omega arith) (count-length xs)
-    (format-length xs)))))
+    (or-else 138 17 xs _ _ (omega arith) (drop-length xs)
+    (format-length xs))))))
 
 -- a longer line says none
 pub long-says-none : (xs : List ℕ) → 138 < length xs → callOf xs ≡ none

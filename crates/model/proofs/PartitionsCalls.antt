@@ -1,4 +1,4 @@
--- What a flush, a put and a del leave of each part of a partition.
+-- What a flush, a drop, a put and a del leave of each part of a partition.
 use Prim.Native.Nat.{ℕ, _+_, _-_, _*_, _^_, _<_}
 use mathlib.Core.Bool.{true, false}
 use mathlib.Core.Path.{_≡_, _∙_}
@@ -14,15 +14,16 @@ use Rattle.model.specs.Keys.{partitionOf, pageOf}
 use Rattle.model.specs.Page.{stored, without, taken, emptied}
 use Rattle.model.specs.DeleteList.{listedAt, struck, enlisted, expired}
 use Rattle.model.specs.Filter.{isSet, filterFor}
-use Rattle.model.specs.Partition.{Head, headOf, withHead, listedHead, unlistedHead, totalledHead, totalled, flushesOf, listedOf, totalOf, listOf, bufferOf, slot, slotBits}
-use Rattle.model.specs.Batch.{dropped}
-use Rattle.model.specs.Flush.{filtered, delisted, headAfter, flushed}
-use Rattle.model.specs.Put.{due, appends, putDrops, unlisted, buffered, putIn}
+use Rattle.model.specs.Partition.{Head, headOf, withHead, listedHead, unlistedHead, totalledHead, totalled, flushesOf, listedOf, totalOf, liveOf, listOf, bufferOf, slot, slotBits}
+use Rattle.model.specs.Batch.{leaving, delisted}
+use Rattle.model.specs.Flush.{filtered, headAfter, flushed}
+use Rattle.model.specs.Drop.{headDropped, dropped}
+use Rattle.model.specs.Put.{due, appends, putLeaving, unlisted, buffered, putIn}
 use Rattle.model.specs.Del.{isListed, removes, stampFor, unbuffered, listedWith, deleted}
 use Rattle.model.proofs.Parts.{length-mid}
 use Rattle.model.proofs.Sizes.{sizes, page-of-lt, slot-lt, buffer-fits}
 use Rattle.model.proofs.Lengths.{length-stored, length-without, length-struck, length-enlisted, length-expired, length-filterFor}
-use Rattle.model.proofs.Heads.{HeadWords, words-listed, words-unlisted, words-totalled, words-after}
+use Rattle.model.proofs.Heads.{HeadWords, words-listed, words-unlisted, words-totalled, words-after, words-dropped}
 use Rattle.model.proofs.Checks.{appends-due}
 use Rattle.model.proofs.Partitions.{modify, Laid, laid, list-fits, laid-head, laid-list, laid-filter, laid-buffer, laid-emptied}
 
@@ -43,7 +44,7 @@ module _ (g : Geometry) (ok : allowed g ≡ true) (p : List ℕ) (long : length 
   laid-unbuffered k = laid-buffer g ok (laid g p long) (without k) (pageOf g k) (page-of-lt g ok k) (length-without k _ ∙ page-long (pageOf g k) (page-of-lt g ok k))
 
   -- the filter of batch F + 1 made new, and the list without what expires
-  pub laid-prepared : Laid g (delisted g (flushesOf p) (listedOf p) (filtered g p)) (headOf p) (expired (g .kept) (flushesOf p) (listedOf p) (listOf g p))
+  pub laid-prepared : Laid g (delisted g (g .kept) (flushesOf p) (listedOf p) (filtered g p)) (headOf p) (expired (g .kept) (flushesOf p) (listedOf p) (listOf g p))
       (modify (slot g (flushesOf p + 1)) (λ _. isSet (filterFor g (bufferOf g p))) (slotBits g p)) (bufferOf g p)
   unfolding filtered delisted
   laid-prepared =
@@ -76,7 +77,14 @@ module _ (g : Geometry) (ok : allowed g ≡ true) (p : List ℕ) (long : length 
         → Laid g (flushed g t p) (headAfter g p) (expired (g .kept) (flushesOf p) (listedOf p) (listOf g p))
         (modify (slot g (flushesOf p + 1)) (λ _. isSet (filterFor g (bufferOf g p))) (slotBits g p)) (λ q. emptied q t (bufferOf g p q))
     unfolding flushed
-    laid-flushed t more = laid-head g ok (laid-emptied g ok t laid-prepared page-long) _ (words-after g p words more)
+    laid-flushed t more = laid-head g ok (laid-emptied g ok t laid-prepared page-long) _ (words-after g p words more (omega (arith, sizes g ok .kept-max)))
+
+    -- the list without the entries stamped with the oldest live batch; filters and buffer as they were
+    pub laid-dropped : (less : ℕ) → Laid g (dropped g less p) (headDropped g less p) (expired (liveOf p) (flushesOf p) (listedOf p) (listOf g p)) (slotBits g p) (bufferOf g p)
+    unfolding dropped delisted
+    laid-dropped less =
+        laid-head g ok (laid-list g ok (laid g p long) (expired (liveOf p) (flushesOf p) (listedOf p)) (length-expired (liveOf p) (flushesOf p) (listedOf p) (listOf g p) ∙ list-long)) _
+        (words-dropped g less p words)
 
 -- a key that is not listed stays so, a listed one leaves the list with a put, and makes a del do nothing
 module _ (g : Geometry) (k : ℕ) (p : List ℕ) where
@@ -104,10 +112,10 @@ module _ (g : Geometry) (k : ℕ) (p : List ℕ) where
 
   -- a put, without a flush and with one
   pub put-kept : (v : ℕ) (f : List ℕ) → due g k p ≡ false → putIn g k v f p ≡ totalled (appends g k p) 0 (unlisted g k (buffered g k v p))
-  unfolding putIn putDrops
+  unfolding putIn putLeaving
   put-kept v f e = rw e
 
   pub put-flushed : (v : ℕ) (f : List ℕ) → due g k p ≡ true
-      → putIn g k v f p ≡ totalled 1 (dropped g (partitionOf g k) p f) (unlisted g k (buffered g k v (flushed g (partitionOf g k) p)))
-  unfolding putIn putDrops
+      → putIn g k v f p ≡ totalled 1 (leaving g (partitionOf g k) p f) (unlisted g k (buffered g k v (flushed g (partitionOf g k) p)))
+  unfolding putIn putLeaving
   put-flushed v f e = rw (e, appends-due g k p e)

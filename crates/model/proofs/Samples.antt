@@ -43,7 +43,7 @@ opening = refl
 
 -- all 16 bytes of a head
 abbrev someHead : Head
-someHead = record { flushes = 1; listed = 2; total = 3; rest = 4 }
+someHead = record { flushes = 1; listed = 2; total = 3; live = 4 }
 
 head : headOf (withHead someHead (zeros 16)) ≡ someHead
 unfolding withHead word write bytesOf

@@ -38,7 +38,7 @@ pub record Refusal : Type 0 where
 abbrev pub unread : ℕ → Refusal
 unread n = record { number = n; reads = 0 }
 
---     done number            format, put, del, flush: the pages written; count: the total; text: its length
+--     done number            format, put, del, flush, drop: the pages written; count: the total; text: its length
 --     found value tally place,  absent tally      get
 --     shown stretch          view
 --     refused number reads

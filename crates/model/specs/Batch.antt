@@ -1,14 +1,15 @@
--- A batch in flash: its pages and its entries; and the batch that a flush pushes out.
+-- A batch in flash: its pages and its entries; and what goes with a batch that a flush pushes out or a drop takes off.
 use Prim.Native.Nat.{ℕ, zero, suc, _+_, _-_}
 use mathlib.Core.Bool.{Bool, cond, not}
 use mathlib.Core.List.{List}
 use mathlib.Core.Option.{Option, none}
 use lib.Dec.{leb}
-use Rattle.model.specs.Bytes.{mid}
+use Rattle.model.specs.Bytes.{mid, within}
 use Rattle.model.specs.Search.{firstFrom}
-use Rattle.model.specs.Geometry.{slotPageAt}
+use Rattle.model.specs.Geometry.{listAt, listSize, slotPageAt}
 use Rattle.model.specs.Page.{countOf, expected}
-use Rattle.model.specs.Partition.{Head, headOf, slot, live}
+use Rattle.model.specs.DeleteList.{expired, unexpired}
+use Rattle.model.specs.Partition.{Head, headOf, flushesOf, listedOf, listOf, slot, oldest}
 use Rattle.model.specs.declared.Geometry.{Geometry}
 
 -- page q of batch n of partition t
@@ -24,21 +25,30 @@ sum (suc n) f = f n + sum n f
 abbrev pub entriesOf : (ℕ → List ℕ) → ℕ → ℕ
 entriesOf page q = sum q (λ i. countOf (page i))
 
--- A flush pushes a batch out when K are live, which is when F is at least K: the oldest, F + 1 − K.
-unfoldable pub pushesOut : Geometry → Head → Bool
-pushesOut g h = leb (g .kept) (live g h)
-
-abbrev pub oldest : Geometry → Head → ℕ
-oldest g h = h .flushes + 1 - g .kept
-
 -- the first of batch n's pages whose head is not the one expected
 abbrev pub failedPage : Geometry → ℕ → List ℕ → ℕ → Option ℕ
 failedPage g t f n = firstFrom (g .pages) 0 (λ q. not (expected g t n q (batchPage g t f n q)))
 
--- of the batch that a flush pushes out
+-- the entries of batch n
+abbrev pub batchEntries : Geometry → ℕ → List ℕ → ℕ → ℕ
+batchEntries g t f n = entriesOf (batchPage g t f n) (g .pages)
+
+-- A flush pushes a batch out when K are live: the oldest.
+unfoldable pub pushesOut : Geometry → Head → Bool
+pushesOut g h = leb (g .kept) (h .live)
+
+-- the first of its heads that is not the one expected
 unfoldable pub failedHead : Geometry → ℕ → List ℕ → List ℕ → Option ℕ
-failedHead g t p f = cond (pushesOut g (headOf p)) (failedPage g t f (oldest g (headOf p))) none
+failedHead g t p f = cond (pushesOut g (headOf p)) (failedPage g t f (oldest (headOf p))) none
 
 -- the entries that leave with it
-unfoldable pub dropped : Geometry → ℕ → List ℕ → List ℕ → ℕ
-dropped g t p f = cond (pushesOut g (headOf p)) (entriesOf (batchPage g t f (oldest g (headOf p))) (g .pages)) 0
+unfoldable pub leaving : Geometry → ℕ → List ℕ → List ℕ → ℕ
+leaving g t p f = cond (pushesOut g (headOf p)) (batchEntries g t f (oldest (headOf p))) 0
+
+-- With a batch that goes the list entries go that are stamped with it: F + 1 − K in a flush, F + 1 − live in a drop.
+unfoldable pub delisted : Geometry → ℕ → ℕ → ℕ → List ℕ → List ℕ
+delisted g back flushes listed p = within listAt (listSize g) (expired back flushes listed) p
+
+-- how many they are
+abbrev pub delistings : Geometry → ℕ → List ℕ → ℕ
+delistings g back p = listedOf p - unexpired back (flushesOf p) (listedOf p) (listOf g p)

@@ -1,4 +1,4 @@
--- "The six calls", count and text: what each answers and leaves, on areas of any length and content, and a whole list of them.
+-- "The six calls", count, text and drop: what each answers and leaves, on areas of any length and content, and a whole list of them.
 use Prim.Native.Nat.{ℕ}
 use mathlib.Core.Bool.{cond}
 use mathlib.Core.List.{List, [], _∷_}
@@ -20,9 +20,10 @@ use Rattle.model.specs.Del.{delChecks, deleted}
 use Rattle.model.specs.View.{viewChecks, viewed}
 use Rattle.model.specs.Count.{countChecks}
 use Rattle.model.specs.PartitionText.{partitionText, textChecks}
+use Rattle.model.specs.Drop.{dropChecks, dropIn}
 use Rattle.model.specs.declared.Geometry.{Geometry}
 
---     format geometry, put key value, get key, del key, flush partition, view partition page flush-number, count partition, text partition room
+--     format geometry, put key value, get key, del key, flush partition, view partition page flush-number, count partition, text partition room, drop partition
 pub data Call : Type 0 where
   format : Geometry → Call
   put : ℕ → ℕ → Call
@@ -32,6 +33,7 @@ pub data Call : Type 0 where
   view : ℕ → ℕ → ℕ → Call
   count : ℕ → Call
   text : ℕ → ℕ → Call
+  drop : ℕ → Call
 
 -- the geometry that memory opens with, and a partition's bytes
 abbrev pub geometryIn : Areas → Geometry
@@ -57,6 +59,7 @@ checks a (flush t) = unopened a (flushChecks (geometryIn a) t (partitionIn a t) 
 checks a (view t q n) = unopened a (viewChecks (geometryIn a) t q n (partitionIn a t))
 checks a (count t) = unopened a (countChecks (geometryIn a) t (partitionIn a t))
 checks a (text t room) = unopened a (textChecks (geometryIn a) t room (partitionIn a t) (a .flash))
+checks a (drop t) = unopened a (dropChecks (geometryIn a) t (partitionIn a t) (a .flash))
 
 -- what a call answers that none of them stops; the 13 of get and view may still come
 unfoldable pub result : Areas → Call → Answer
@@ -68,6 +71,7 @@ result a (flush t) = done (geometryIn a .pages)
 result a (view t q n) = viewed (geometryIn a) t q n (a .flash)
 result a (count t) = done (totalOf (partitionIn a t))
 result a (text t room) = done (length (textIn a t))
+result a (drop t) = done 0
 
 abbrev pub replyIf : Option Refusal → Answer → Answer
 replyIf (some r) x = refused (r .number) (r .reads)
@@ -96,6 +100,7 @@ effect a (flush t) = changed a t (flushIn (geometryIn a) t (a .flash)) (flashAft
 effect a (view t q n) = a
 effect a (count t) = a
 effect a (text t room) = a
+effect a (drop t) = changed a t (dropIn (geometryIn a) t (a .flash)) (a .flash)
 
 -- a refused call changes no byte
 abbrev pub unlessRefused : {A : Type 0} → Answer → A → A → A

@@ -23,13 +23,13 @@ enlisted n k stamp l = write 4 0 (16 * n + 12) (write 4 stamp (16 * n + 8) (writ
 unfoldable pub struck : ℕ → ℕ → List ℕ → List ℕ
 struck i n l = closedUp (eqb i) n 0 l
 
--- stamped F + 1 − K, as integers
+-- stamped F + 1 − back, as integers
 abbrev pub expiring : ℕ → ℕ → List ℕ → ℕ → Bool
-expiring kept flushes l i = eqb (stampAt l i + kept) (flushes + 1)
+expiring back flushes l i = eqb (stampAt l i + back) (flushes + 1)
 
 -- the list without those entries, and how many it has then
 unfoldable pub expired : ℕ → ℕ → ℕ → List ℕ → List ℕ
-expired kept flushes n l = closedUp (expiring kept flushes l) n 0 l
+expired back flushes n l = closedUp (expiring back flushes l) n 0 l
 
 unfoldable pub unexpired : ℕ → ℕ → ℕ → List ℕ → ℕ
-unexpired kept flushes n l = staying (expiring kept flushes l) n 0
+unexpired back flushes n l = staying (expiring back flushes l) n 0

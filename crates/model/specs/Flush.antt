@@ -1,18 +1,17 @@
 -- "flush of partition t: batch F + 1 is written whole, its pages being the buffer pages with that flush number; no other flash byte changes. The slot's filter is made new. List entries stamped F + 1 − K are removed. The buffer is emptied as by format and F rises by 1."
 -- Document 02: "A flush that drops a batch first reads the heads of that batch's Q pages in order." "However pages now get to flash, write each from the buffer into its slot directly."
-use Prim.Native.Nat.{ℕ, zero, suc, _+_, _-_}
+use Prim.Native.Nat.{ℕ, zero, suc, _+_}
 use mathlib.Core.Bool.{Bool, not, _||_}
 use mathlib.Core.List.{List}
 use mathlib.Core.Option.{Option, none}
 use lib.Dec.{eqb, ltb}
 use Rattle.model.specs.Bytes.{within}
 use Rattle.model.specs.Search.{anyFrom}
-use Rattle.model.specs.Geometry.{partitions, listAt, listSize, filterAt, filterSize, slotPageAt}
+use Rattle.model.specs.Geometry.{partitions, filterAt, filterSize, slotPageAt}
 use Rattle.model.specs.Page.{countOf, numbered}
-use Rattle.model.specs.DeleteList.{expired, unexpired}
 use Rattle.model.specs.Filter.{filterFor}
-use Rattle.model.specs.Partition.{Head, headOf, flushedHead, unlistedHead, withHead, totalled, flushesOf, listedOf, listOf, bufferOf, slot}
-use Rattle.model.specs.Batch.{failedHead, dropped}
+use Rattle.model.specs.Partition.{Head, headOf, flushedHead, unlistedHead, withHead, totalled, flushesOf, listedOf, bufferOf, slot}
+use Rattle.model.specs.Batch.{failedHead, leaving, delisted, delistings}
 use Rattle.model.specs.Answers.{Refusal}
 use Rattle.model.specs.Refusals.{refuseIf, refuseHead, headOverfull, somePageOverfull, totalOut, lastFlush}
 use Rattle.model.specs.Format.{emptiedPages}
@@ -27,7 +26,7 @@ unfoldable pub dueChecks : Geometry → ℕ → ℕ → List ℕ → List ℕ �
 dueChecks g t more p f =
     refuseIf (eqb (flushesOf p) lastFlush) 16
     (refuseHead (failedHead g t p f)
-    (refuseIf (totalOut g more (dropped g t p f) (headOf p)) 12 none))
+    (refuseIf (totalOut g more (leaving g t p f) (headOf p)) 12 none))
 
 -- 4, 12, 15, 16, 13, 12, for partition t with the bytes p, and flash
 unfoldable pub flushChecks : Geometry → ℕ → List ℕ → List ℕ → Option Refusal
@@ -41,21 +40,17 @@ flushChecks g t p f =
 unfoldable pub filtered : Geometry → List ℕ → List ℕ
 filtered g p = within (filterAt g (slot g (flushesOf p + 1))) (filterSize g) (λ _. filterFor g (bufferOf g p)) p
 
--- the list without the entries that expire
-unfoldable pub delisted : Geometry → ℕ → ℕ → List ℕ → List ℕ
-delisted g flushes listed p = within listAt (listSize g) (expired (g .kept) flushes listed) p
-
 -- the head after the flush: the entries that expire are listed no more
 unfoldable pub headAfter : Geometry → List ℕ → Head
-headAfter g p = unlistedHead (listedOf p - unexpired (g .kept) (flushesOf p) (listedOf p) (listOf g p)) (flushedHead (headOf p))
+headAfter g p = unlistedHead (delistings g (g .kept) p) (flushedHead g (headOf p))
 
 -- the partition after the flush
 unfoldable pub flushed : Geometry → ℕ → List ℕ → List ℕ
-flushed g t p = withHead (headAfter g p) (emptiedPages g t (g .pages) (delisted g (flushesOf p) (listedOf p) (filtered g p)))
+flushed g t p = withHead (headAfter g p) (emptiedPages g t (g .pages) (delisted g (g .kept) (flushesOf p) (listedOf p) (filtered g p)))
 
 -- and with the total that the call ends with
 unfoldable pub flushIn : Geometry → ℕ → List ℕ → List ℕ → List ℕ
-flushIn g t f p = totalled 0 (dropped g t p f) (flushed g t p)
+flushIn g t f p = totalled 0 (leaving g t p f) (flushed g t p)
 
 -- 4, 16, for page q of partition t with the bytes p: a page is written "on any areas, partition and page that pass 2, 11, 3, 4 and 16"
 unfoldable pub pageChecks : Geometry → ℕ → ℕ → List ℕ → Option Refusal

@@ -20,5 +20,6 @@ pub mod View
 pub mod Count
 pub mod Text
 pub mod PartitionText
+pub mod Drop
 pub mod Calls
 pub mod Session

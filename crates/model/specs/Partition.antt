@@ -9,35 +9,39 @@ use Rattle.model.specs.Keys.{mixed}
 use Rattle.model.specs.Filter.{isSet, passes}
 use Rattle.model.specs.declared.Geometry.{Geometry}
 
--- F, L, the total of the partition's entries, and 4 bytes that are carried along
--- Document 02: "Head bytes 8 to 11 hold the total", of "a partition's entries, buffer and live batches together".
+-- F, L, the total of the partition's entries, and the number of its live batches
+-- Document 02: "Head bytes 8 to 11 hold the total", of "a partition's entries, buffer and live batches together". "Head bytes 12 to 15 now hold the number of live batches, in place of min(K, F)."
 pub record Head : Type 0 where
   pub flushes : ℕ
   pub listed : ℕ
   pub total : ℕ
-  pub rest : ℕ
+  pub live : ℕ
 
--- one flush more
-abbrev pub flushedHead : Head → Head
-flushedHead h = record { flushes = h .flushes + 1; listed = h .listed; total = h .total; rest = h .rest }
+-- one flush more: "a flush raises it up to K"
+abbrev pub flushedHead : Geometry → Head → Head
+flushedHead g h = record { flushes = h .flushes + 1; listed = h .listed; total = h .total; live = min (g .kept) (h .live + 1) }
+
+-- one live batch less
+abbrev pub loweredHead : Head → Head
+loweredHead h = record { flushes = h .flushes; listed = h .listed; total = h .total; live = h .live - 1 }
 
 -- one listed key more
 abbrev pub listedHead : Head → Head
-listedHead h = record { flushes = h .flushes; listed = h .listed + 1; total = h .total; rest = h .rest }
+listedHead h = record { flushes = h .flushes; listed = h .listed + 1; total = h .total; live = h .live }
 
 -- n listed keys less
 abbrev pub unlistedHead : ℕ → Head → Head
-unlistedHead n h = record { flushes = h .flushes; listed = h .listed - n; total = h .total; rest = h .rest }
+unlistedHead n h = record { flushes = h .flushes; listed = h .listed - n; total = h .total; live = h .live }
 
 -- so many entries more, and so many less
 abbrev pub totalledHead : ℕ → ℕ → Head → Head
-totalledHead more less h = record { flushes = h .flushes; listed = h .listed; total = h .total + more - less; rest = h .rest }
+totalledHead more less h = record { flushes = h .flushes; listed = h .listed; total = h .total + more - less; live = h .live }
 
 abbrev pub headOf : List ℕ → Head
-headOf p = record { flushes = word 4 p 0; listed = word 4 p 4; total = word 4 p 8; rest = word 4 p 12 }
+headOf p = record { flushes = word 4 p 0; listed = word 4 p 4; total = word 4 p 8; live = word 4 p 12 }
 
 unfoldable pub withHead : Head → List ℕ → List ℕ
-withHead h p = write 4 (h .rest) 12 (write 4 (h .total) 8 (write 4 (h .listed) 4 (write 4 (h .flushes) 0 p)))
+withHead h p = write 4 (h .live) 12 (write 4 (h .total) 8 (write 4 (h .listed) 4 (write 4 (h .flushes) 0 p)))
 
 -- the total is kept by differences
 unfoldable pub totalled : ℕ → ℕ → List ℕ → List ℕ
@@ -51,6 +55,9 @@ listedOf p = headOf p .listed
 
 abbrev pub totalOf : List ℕ → ℕ
 totalOf p = headOf p .total
+
+abbrev pub liveOf : List ℕ → ℕ
+liveOf p = headOf p .live
 
 abbrev pub partition : Geometry → ℕ → List ℕ → List ℕ
 partition g t m = mid (partitionAt g t) (stride g) m
@@ -68,12 +75,13 @@ bufferOf g p q = mid (bufferAt g q) (g .page) p
 abbrev pub slot : Geometry → ℕ → ℕ
 slot g n = (n - 1) % g .kept
 
--- Live are the latest min(K, F) batches.
-unfoldable pub live : Geometry → Head → ℕ
-live g h = min (g .kept) (h .flushes)
+-- Live are the latest so many batches as the live number says.
+unfoldable pub isLive : Head → ℕ → Bool
+isLive h n = ltb (h .flushes - h .live) n && leb n (h .flushes)
 
-unfoldable pub isLive : Geometry → Head → ℕ → Bool
-isLive g h n = ltb (h .flushes - live g h) n && leb n (h .flushes)
+-- the oldest of them
+abbrev pub oldest : Head → ℕ
+oldest h = h .flushes - h .live + 1
 
 -- the bits of slot j's filter
 unfoldable pub slotBits : Geometry → List ℕ → ℕ → ℕ → Bool
@@ -90,4 +98,4 @@ passingFrom g k p (suc count) n = cond (batchPasses g k p n) (n ∷ passingFrom 
 
 -- the live batches whose filter passes the key, youngest first
 unfoldable pub passing : Geometry → ℕ → List ℕ → List ℕ
-passing g k p = passingFrom g k p (live g (headOf p)) (flushesOf p)
+passing g k p = passingFrom g k p (liveOf p) (flushesOf p)

@@ -1,6 +1,6 @@
 -- Document 02: "For one partition, write `(put key value)` for each key that a get finds, with the value found. The order is oldest batch first, buffer last, and within a batch by page and place of the entry that answers."
 -- A line stands exactly where a get of its key would answer with that very entry.
-use Prim.Native.Nat.{ℕ, zero, suc, _+_, _-_}
+use Prim.Native.Nat.{ℕ, zero, suc, _+_}
 use mathlib.Core.Bool.{Bool, true, false, cond, not, _&&_}
 use mathlib.Core.List.{List, [], _++_}
 use mathlib.Core.Option.{Option, none, some}
@@ -11,7 +11,7 @@ use Rattle.model.specs.Geometry.{partitions}
 use Rattle.model.specs.Keys.{partitionOf, pageOf}
 use Rattle.model.specs.Records.{keyAt}
 use Rattle.model.specs.Page.{countOf, valueAt, searched}
-use Rattle.model.specs.Partition.{Head, headOf, bufferOf, live}
+use Rattle.model.specs.Partition.{Head, headOf, liveOf, bufferOf, oldest}
 use Rattle.model.specs.Batch.{batchPage, failedPage}
 use Rattle.model.specs.Answers.{Refusal, Place, buffer, batch, Answer, done, found, absent, shown, refused}
 use Rattle.model.specs.Refusals.{refuseIf, headOverfull, somePageOverfull}
@@ -29,12 +29,12 @@ joined zero f = []
 joined (suc n) f = joined n f ++ f n
 
 -- the live batches, oldest first
-abbrev pub liveBatch : Geometry → Head → ℕ → ℕ
-liveBatch g h i = h .flushes - live g h + i + 1
+abbrev pub liveBatch : Head → ℕ → ℕ
+liveBatch h i = oldest h + i
 
 -- the places that hold entries: the live batches, oldest first, then the buffer
-unfoldable pub source : Geometry → Head → ℕ → Place
-source g h i = cond (ltb i (live g h)) (batch (liveBatch g h i)) buffer
+unfoldable pub source : Head → ℕ → Place
+source h i = cond (ltb i (h .live)) (batch (liveBatch h i)) buffer
 
 -- page q there
 abbrev pub sourcePage : Geometry → ℕ → List ℕ → List ℕ → Place → ℕ → List ℕ
@@ -83,11 +83,11 @@ unfoldable pub sourceText : Geometry → ℕ → List ℕ → List ℕ → Place
 sourceText g t p f at = joined (g .pages) (pageText g t p f at)
 
 unfoldable pub partitionText : Geometry → ℕ → List ℕ → List ℕ → List ℕ
-partitionText g t p f = joined (live g (headOf p) + 1) (λ i. sourceText g t p f (source g (headOf p) i))
+partitionText g t p f = joined (liveOf p + 1) (λ i. sourceText g t p f (source (headOf p) i))
 
 -- 13: some page of some live batch is not the one expected
 unfoldable pub someBatchFails : Geometry → ℕ → List ℕ → List ℕ → Bool
-someBatchFails g t p f = anyFrom (live g (headOf p)) 0 (λ i. isSome (failedPage g t f (liveBatch g (headOf p) i)))
+someBatchFails g t p f = anyFrom (liveOf p) 0 (λ i. isSome (failedPage g t f (liveBatch (headOf p) i)))
 
 -- 4, 12, 13, 22, for partition t with the bytes p, flash, and room for so many bytes: "13 comes with 0 reads"
 unfoldable pub textChecks : Geometry → ℕ → ℕ → List ℕ → List ℕ → Option Refusal

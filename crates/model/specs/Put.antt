@@ -12,7 +12,7 @@ use Rattle.model.specs.Keys.{partitionOf, pageOf}
 use Rattle.model.specs.Page.{countOf, searched, stored, added}
 use Rattle.model.specs.DeleteList.{listedAt, struck}
 use Rattle.model.specs.Partition.{headOf, unlistedHead, withHead, totalled, listedOf, listOf, bufferOf}
-use Rattle.model.specs.Batch.{dropped}
+use Rattle.model.specs.Batch.{leaving}
 use Rattle.model.specs.Answers.{Refusal}
 use Rattle.model.specs.Refusals.{refuseIf, keyOverfull, somePageOverfull, totalOut}
 use Rattle.model.specs.Flush.{dueChecks, flushed}
@@ -30,8 +30,8 @@ due g k p = not (isSome (searched k (bufferOf g p (pageOf g k)))) && eqb (countO
 unfoldable pub appends : Geometry → ℕ → List ℕ → ℕ
 appends g k p = added k (bufferOf g p (pageOf g k))
 
-unfoldable pub putDrops : Geometry → ℕ → List ℕ → List ℕ → ℕ
-putDrops g k p f = cond (due g k p) (dropped g (partitionOf g k) p f) 0
+unfoldable pub putLeaving : Geometry → ℕ → List ℕ → List ℕ → ℕ
+putLeaving g k p f = cond (due g k p) (leaving g (partitionOf g k) p f) 0
 
 -- 21, 12, then 12, 16, 13, 12 where a flush is due, and otherwise 12: for the key's partition with the bytes p, and flash
 unfoldable pub putChecks : Geometry → ℕ → ℕ → List ℕ → List ℕ → Option Refusal
@@ -55,4 +55,4 @@ buffered g k v p = within (bufferAt g (pageOf g k)) (g .page) (stored k v) p
 
 -- the partition after the put
 unfoldable pub putIn : Geometry → ℕ → ℕ → List ℕ → List ℕ → List ℕ
-putIn g k v f p = totalled (appends g k p) (putDrops g k p f) (unlisted g k (buffered g k v (cond (due g k p) (flushed g (partitionOf g k) p) p)))
+putIn g k v f p = totalled (appends g k p) (putLeaving g k p f) (unlisted g k (buffered g k v (cond (due g k p) (flushed g (partitionOf g k) p) p)))

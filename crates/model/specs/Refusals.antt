@@ -1,6 +1,6 @@
 -- "Refusals that come from the input", "Refusals that come from the state": those that more than one call checks.
 -- Each call's list of checks stands with the call. The 13 of get and view is found as pages are read, and stands with the answers.
-use Prim.Native.Nat.{ℕ, _+_, _-_}
+use Prim.Native.Nat.{ℕ, _+_, _-_, min}
 use mathlib.Core.Bool.{Bool, true, false, not, _||_}
 use mathlib.Core.List.{List}
 use mathlib.Core.Option.{Option, none, some}
@@ -33,9 +33,9 @@ unopened a later =
     (refuseIf (ltb (length (a .memory)) (memoryNeed (geometryOf (a .memory)))) 2
     (refuseIf (ltb (length (a .flash)) (flashNeed (geometryOf (a .memory)))) 3 later)))
 
--- 12: L above D, or a total above (K + 1) × Q × E
+-- 12: L above D, a total above (K + 1) × Q × E, or a live number above the lesser of K and F
 unfoldable pub headOverfull : Geometry → Head → Bool
-headOverfull g h = ltb (g .list) (h .listed) || ltb (mostEntries g) (h .total)
+headOverfull g h = ltb (g .list) (h .listed) || ltb (mostEntries g) (h .total) || ltb (min (g .kept) (h .flushes)) (h .live)
 
 -- 12: buffer page q counts above E
 unfoldable pub pageOverfull : Geometry → List ℕ → ℕ → Bool

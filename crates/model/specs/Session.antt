@@ -9,7 +9,7 @@ use Rattle.model.specs.Bytes.{zeros}
 use Rattle.model.specs.Geometry.{geometry}
 use Rattle.model.specs.Text.{text, decimal, past, Figure, figure}
 use Rattle.model.specs.Answers.{Areas, Answer, done, found, absent, shown, refused}
-use Rattle.model.specs.Calls.{Call, format, put, get, del, flush, count, reply, after}
+use Rattle.model.specs.Calls.{Call, format, put, get, del, flush, count, drop, reply, after}
 
 abbrev pub then : {A B : Type 0} → Option A → (A → Option B) → Option B
 then none f = none
@@ -45,7 +45,7 @@ putLine xs =
     then (numberPast " " wide (k .rest)) (λ v.
     ending ")" (v .rest) (put (k .value) (v .value))))
 
--- (get 2), (del 2), (flush 0), (count 0): one number
+-- (get 2), (del 2), (flush 0), (count 0), (drop 0): one number
 abbrev pub oneNumber : String → ℕ → (ℕ → Call) → List ℕ → Option Call
 oneNumber s limit call xs = then (numberPast s limit xs) (λ n. ending ")" (n .rest) (call (n .value)))
 
@@ -60,6 +60,9 @@ flushLine xs = oneNumber "(flush " narrow flush xs
 
 unfoldable pub countLine : List ℕ → Option Call
 countLine xs = oneNumber "(count " narrow count xs
+
+unfoldable pub dropLine : List ℕ → Option Call
+dropLine xs = oneNumber "(drop " narrow drop xs
 
 -- (format (parts 0) (page 64) (pages 1) (kept 2) (bits 64) (hashes 3) (list 1))
 unfoldable pub formatLine : List ℕ → Option Call
@@ -76,7 +79,7 @@ formatLine xs =
 
 -- the call that a line says
 unfoldable pub callOf : List ℕ → Option Call
-callOf xs = orElse (putLine xs) (orElse (getLine xs) (orElse (delLine xs) (orElse (flushLine xs) (orElse (countLine xs) (formatLine xs)))))
+callOf xs = orElse (putLine xs) (orElse (getLine xs) (orElse (delLine xs) (orElse (flushLine xs) (orElse (countLine xs) (orElse (dropLine xs) (formatLine xs))))))
 
 -- After ok: pages written, or the total. After found: value, reads. After none: reads. After refused: number, reads. A view has no form.
 unfoldable pub answerText : Answer → List ℕ

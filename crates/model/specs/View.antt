@@ -18,7 +18,7 @@ viewChecks g t q n p =
     refuseIf (not (ltb t (partitions g)) || not (ltb q (g .pages))) 4
     (refuseIf (headOverfull g (headOf p)) 12
     (refuseIf (eqb n 0 && pageOverfull g p q) 12
-    (refuseIf (not (eqb n 0) && not (isLive g (headOf p) n)) 17 none)))
+    (refuseIf (not (eqb n 0) && not (isLive (headOf p) n)) 17 none)))
 
 -- the part that is shown
 abbrev pub pageShown : Bool → Geometry → ℕ → ℕ → ℕ → List ℕ → Answer

@@ -1,4 +1,4 @@
-// The eight calls for C: numbers, and areas as pointer and length. include/mortxizal.h declares them.
+// The nine calls for C: numbers, and areas as pointer and length. include/mortxizal.h declares them.
 ghost use Rattle.model.specs.Geometry.{geometry};
 ghost use Rattle.model.specs.Calls.{Call};
 ghost use Rattle.mortxizal.specs.Exports.{Exports, ExportsText};
@@ -93,4 +93,11 @@ pub extern "C" fn mx_text<'a>(
     ensures { λ r. ⌜ ExportsText partition (now (memory .entry)) (now (flash .entry)) (now (text .entry)) r (now (text .exit)) ⌝ }
 {
     of_text(index::text(memory, flash, partition, text))
+}
+
+#[no_mangle]
+pub extern "C" fn mx_drop(memory: &mut [u8], flash: &[u8], partition: u32) -> MxAnswer
+    ensures { λ r. ⌜ Exports (Call.drop partition) (now (memory .entry)) (now (flash .entry)) r (now (memory .exit)) (now (flash .entry)) ⌝ }
+{
+    of_written(index::drop(memory, flash, partition))
 }

@@ -8,8 +8,8 @@ use native.Mathlib.Nat.{add-mod-right}
 use native.Mathlib.Omega.{arith}
 use borrow.Author.Tests.{le-leb, lt-leb}
 use Rattle.model.specs.declared.Geometry.{Geometry}
-use Rattle.model.specs.Partition.{headOf, flushesOf, slot, live}
-use Rattle.model.specs.Batch.{pushesOut, oldest, failedHead, dropped}
+use Rattle.model.specs.Partition.{headOf, flushesOf, liveOf, slot, oldest}
+use Rattle.model.specs.Batch.{pushesOut, failedHead, leaving}
 use Rattle.model.specs.Answers.{unread}
 use Rattle.model.specs.Refusals.{refuseIf, refuseHead, totalOut, lastFlush}
 use Rattle.model.specs.Answers as model
@@ -30,22 +30,38 @@ pub passed-with : (o : Option model.Refusal) (n m : ℕ) → leavingWith o n ≡
 passed-with none n m e = (refl, cc)
 passed-with (some x) n m e = let z : _≡_ {A = ℕ} 0 1 = cc in absurd (omega arith)
 
+-- ---- heads that were read, of so many entries, before what else is checked
+module _ (o : Option ℕ) (n : ℕ) where
+  pub heads-fail : (later : Option model.Refusal) (r : Refusal) → leavingWith (refuseHead o none) n ≡ Refused r → leavingWith (refuseHead o later) n ≡ Refused r
+  heads-fail later r e = go o e
+    where
+      go : (o : Option ℕ) → leavingWith (refuseHead o none) n ≡ Refused r → leavingWith (refuseHead o later) n ≡ Refused r
+      go none e = let z : _≡_ {A = ℕ} 0 1 = cc in absurd (omega arith)
+      go (some q) e = e
+
+  pub heads-sound : (less : ℕ) → leavingWith (refuseHead o none) n ≡ Entries less → (o ≡ none) × (n ≡ less)
+  heads-sound less e = go o refl e
+    where
+      go : (x : Option ℕ) → o ≡ x → leavingWith (refuseHead x none) n ≡ Entries less → (o ≡ none) × (n ≡ less)
+      go none same e = (same, cc)
+      go (some q) same e = let z : _≡_ {A = ℕ} 0 1 = cc in absurd (omega arith)
+
 -- ---- batch F + 1 takes the slot of the one that it pushes out
-pub slot-again : (g : Geometry) (F : ℕ) → g .kept ≤ F → slot g (F + 1) ≡ slot g (F - g .kept + 1)
-slot-again g F l =
+pub slot-again : (g : Geometry) (F live : ℕ) → live ≡ g .kept → live ≤ F → slot g (F + 1) ≡ slot g (F - live + 1)
+slot-again g F live full l =
     let new : F + 1 - 1 ≡ F - g .kept + g .kept = omega arith in
-    let old : F - g .kept + 1 - 1 ≡ F - g .kept = omega arith in
+    let old : F - live + 1 - 1 ≡ F - g .kept = omega arith in
     rw (new, old) (add-mod-right (F - g .kept) (g .kept))
 
 module _ (g : Geometry) (t : ℕ) (p f : List ℕ) where
   -- ---- fewer than K are live: nothing leaves; otherwise the oldest does
-  pub none-out : live g (headOf p) < g .kept → Entries 0 ≡ outgoingOf g t p f
-  unfolding outgoingOf failedHead dropped pushesOut
-  none-out l = rw (lt-leb (g .kept) (live g (headOf p)) l)
+  pub none-out : liveOf p < g .kept → Entries 0 ≡ outgoingOf g t p f
+  unfolding outgoingOf failedHead leaving pushesOut
+  none-out l = rw (lt-leb (g .kept) (liveOf p) l)
 
-  pub oldest-out : g .kept ≤ live g (headOf p) → (n : ℕ) → n ≡ oldest g (headOf p) → (r : Leaving) → r ≡ headsOf g t n f → r ≡ outgoingOf g t p f
-  unfolding headsOf outgoingOf failedHead dropped pushesOut
-  oldest-out l n en r e = e ∙ rw (le-leb (g .kept) (live g (headOf p)) l, en)
+  pub oldest-out : g .kept ≤ liveOf p → (n : ℕ) → n ≡ oldest (headOf p) → (r : Leaving) → r ≡ headsOf g t n f → r ≡ outgoingOf g t p f
+  unfolding headsOf outgoingOf failedHead leaving pushesOut
+  oldest-out l n en r e = e ∙ rw (le-leb (g .kept) (liveOf p) l, en)
 
   -- ---- 16, then what was read, then the total
   module _ (more : ℕ) where
@@ -55,29 +71,21 @@ module _ (g : Geometry) (t : ℕ) (p f : List ℕ) where
 
     module _ (number : flushesOf p ≡ lastFlush → ⊥) where
       abbrev later : Option model.Refusal
-      later = refuseIf (totalOut g more (dropped g t p f) (headOf p)) 12 none
+      later = refuseIf (totalOut g more (leaving g t p f) (headOf p)) 12 none
 
-      read : leavingFor g t more p f ≡ leavingWith (refuseHead (failedHead g t p f) later) (dropped g t p f)
+      read : leavingFor g t more p f ≡ leavingWith (refuseHead (failedHead g t p f) later) (leaving g t p f)
       unfolding leavingFor
       read = rw (due-read g t more p f number)
 
       pub head-fails : (r : Refusal) → outgoingOf g t p f ≡ Refused r → Refused r ≡ leavingFor g t more p f
       unfolding outgoingOf
-      head-fails r e = sym (read ∙ go (failedHead g t p f) e)
-        where
-          go : (o : Option ℕ) → leavingWith (refuseHead o none) (dropped g t p f) ≡ Refused r → leavingWith (refuseHead o later) (dropped g t p f) ≡ Refused r
-          go none e = let z : _≡_ {A = ℕ} 0 1 = cc in absurd (omega arith)
-          go (some q) e = e
+      head-fails r e = sym (read ∙ heads-fail (failedHead g t p f) (leaving g t p f) later r e)
 
       -- all heads are as expected, and count so many entries
       module _ (less : ℕ) (e : outgoingOf g t p f ≡ Entries less) where
-        all-sound : (failedHead g t p f ≡ none) × (dropped g t p f ≡ less)
+        all-sound : (failedHead g t p f ≡ none) × (leaving g t p f ≡ less)
         unfolding outgoingOf
-        all-sound = go (failedHead g t p f) refl e
-          where
-            go : (o : Option ℕ) → failedHead g t p f ≡ o → leavingWith (refuseHead o none) (dropped g t p f) ≡ Entries less → (failedHead g t p f ≡ none) × (dropped g t p f ≡ less)
-            go none o x = (o, cc)
-            go (some q) o x = let z : _≡_ {A = ℕ} 0 1 = cc in absurd (omega arith)
+        all-sound = heads-sound (failedHead g t p f) (leaving g t p f) less e
 
         pub total-wrong : totalOut g more less (headOf p) ≡ true → Refused (ofRefusal (unread 12)) ≡ leavingFor g t more p f
         total-wrong x = sym (read ∙ rw (all-sound .0, all-sound .1, x))

@@ -1,9 +1,9 @@
--- What a flush that is due does, from its checks and from the entries that it drops.
+-- What a call does with which a batch goes, from its checks and from the entries that leave.
 use Prim.Native.Nat.{ℕ}
 use mathlib.Core.List.{List}
 use mathlib.Core.Option.{Option, none, some}
 use Rattle.model.specs.declared.Geometry.{Geometry}
-use Rattle.model.specs.Batch.{batchPage, entriesOf, failedPage, failedHead, dropped}
+use Rattle.model.specs.Batch.{failedPage, batchEntries, failedHead, leaving}
 use Rattle.model.specs.Answers.{Refusal}
 use Rattle.model.specs.Refusals.{refuseHead}
 use Rattle.model.specs.Flush.{dueChecks}
@@ -17,11 +17,11 @@ leavingWith none entries = Entries entries
 
 -- of batch n: 13 at the first head that is not the one expected, or its entries
 unfoldable pub headsOf : Geometry → ℕ → ℕ → List ℕ → Leaving
-headsOf g t n f = leavingWith (refuseHead (failedPage g t f n) none) (entriesOf (batchPage g t f n) (g .pages))
+headsOf g t n f = leavingWith (refuseHead (failedPage g t f n) none) (batchEntries g t f n)
 
 -- of the batch that a flush pushes out
 unfoldable pub outgoingOf : Geometry → ℕ → List ℕ → List ℕ → Leaving
-outgoingOf g t p f = leavingWith (refuseHead (failedHead g t p f) none) (dropped g t p f)
+outgoingOf g t p f = leavingWith (refuseHead (failedHead g t p f) none) (leaving g t p f)
 
 unfoldable pub leavingFor : Geometry → ℕ → ℕ → List ℕ → List ℕ → Leaving
-leavingFor g t more p f = leavingWith (dueChecks g t more p f) (dropped g t p f)
+leavingFor g t more p f = leavingWith (dueChecks g t more p f) (leaving g t p f)

@@ -1,4 +1,4 @@
-// The batch that a flush pushes out: the heads of its pages are read before anything is written, for its entries leave the total.
+// A batch that goes, by a flush or a drop: the heads of its pages are read before anything is written, for its entries leave the total.
 ghost use mathlib.Core.Bool.{true, false};
 ghost use mathlib.Core.Path.{_≡_};
 ghost use Prim.Native.Nat.{_≤_, _<_};
@@ -12,14 +12,14 @@ use answers::Refusal;
 use head::Head;
 use model::Geometry;
 
-// What a flush that is due does: refuse, or take so many entries off the total.
+// What the call does: refuse, or take so many entries off the total.
 pub enum Leaving {
     Refused(Refusal),
     Entries(u32),
 }
 
 // 13, or the entries of batch n, in slot j, by the heads of its pages.
-fn read_heads(flash: &[u8], g: Geometry, t: u32, n: u32, j: u32) -> Leaving
+pub fn read_heads(flash: &[u8], g: Geometry, t: u32, n: u32, j: u32) -> Leaving
     requires { ⌜ allowed g ≡ true ⌝ }
     requires { ⌜ flashNeed g ≤ length (now flash) ⌝ }
     requires { ⌜ t < partitions g ⌝ }
@@ -53,10 +53,10 @@ fn read_outgoing(part: &[u8], flash: &[u8], g: Geometry, t: u32) -> Leaving
 {
     let head = Head::read(part);
     let j = geometry::slot_of(g, head.flushes + 1);
-    if head.live(g) < g.kept {
+    if head.live < g.kept {
         return Leaving::Entries(0);
     }
-    read_heads(flash, g, t, head.flushes - g.kept + 1, j)
+    read_heads(flash, g, t, head.flushes - head.live + 1, j)
 }
 
 // 16, 13, 12: of a flush that is due, in a call that adds `more` entries.

@@ -56,11 +56,11 @@ asked-of ask e same = sym (e ∙ ap ask same)
 
 -- a head is read from bytes
 pub head-words : (p : List ℕ) → ((i : ℕ) → getD p i 0 < 256) → HeadWords (headOf p)
-head-words p bytes = record { flushes = word-lt 4 p 0 bytes; listed = word-lt 4 p 4 bytes; total = word-lt 4 p 8 bytes; rest = word-lt 4 p 12 bytes }
+head-words p bytes = record { flushes = word-lt 4 p 0 bytes; listed = word-lt 4 p 4 bytes; total = word-lt 4 p 8 bytes; live = word-lt 4 p 12 bytes }
 
 -- and a partition's from bytes of memory
 pub partition-words : (g : Geometry) (t : ℕ) (m : List ℕ) → ((i : ℕ) → getD m i 0 < 256) → HeadWords (headOf (partition g t m))
-partition-words g t m bytes = record { flushes = number 0 (omega arith); listed = number 4 (omega arith); total = number 8 (omega arith); rest = number 12 (omega arith) }
+partition-words g t m bytes = record { flushes = number 0 (omega arith); listed = number 4 (omega arith); total = number 8 (omega arith); live = number 12 (omega arith) }
   where
     number : (at : ℕ) → at + 4 ≤ 16 → word 4 (partition g t m) at < 2 ^ 32
     number at l = rw (word-mid 4 m (partitionAt g t) (stride g) at (omega (arith, buffer-behind-list g 0, buffer-end g))) (word-lt 4 m (partitionAt g t + at) bytes)

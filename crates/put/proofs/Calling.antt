@@ -128,7 +128,7 @@ module _ (g : Geometry) (m f : List ℕ) (table : IsTable g m f) (k : ℕ) where
               omega (
                 arith,
                 w .2,
-                planning.can-drop g k v own f (w .0) (w .1),
+                planning.can-leave g k v own f (w .0) (w .1),
                 flushed-new g own (whole key) words t k can-flush,
                 total-flushed g (table .fine) own (whole key .long) words t (omega (arith, can-flush .number)),
               ),

@@ -3,14 +3,14 @@ use Prim.Native.Nat.{ℕ, _+_, _≤_, _<_}
 use mathlib.Core.Bool.{Bool, true, false}
 use mathlib.Core.List.{List}
 use mathlib.Core.Option.{Option, none, some}
-use mathlib.Core.Path.{_≡_, refl, sym, _∙_, ap}
+use mathlib.Core.Path.{_≡_, refl, _∙_, ap}
 use native.Mathlib.Omega.{arith}
 use Rattle.model.specs.declared.Geometry.{Geometry}
 use Rattle.model.specs.Geometry.{partitions, mostEntries}
 use Rattle.model.specs.Keys.{partitionOf, pageOf}
 use Rattle.model.specs.Page.{searched}
 use Rattle.model.specs.Partition.{headOf, totalOf, bufferOf}
-use Rattle.model.specs.Batch.{dropped}
+use Rattle.model.specs.Batch.{leaving}
 use Rattle.model.specs.Answers.{Refusal, unread}
 use Rattle.model.specs.Refusals.{refuseIf, keyOverfull, somePageOverfull, totalOut}
 use Rattle.model.specs.Flush.{dueChecks}
@@ -43,7 +43,7 @@ stays none n = refl
 -- ---- a put that flushes: as the outgoing batch lets it
 pub flush-plan : (g : Geometry) (k : ℕ) (p f : List ℕ) (r : Leaving) → r ≡ leavingFor g (partitionOf g k) 1 p f → planOf r ≡ planFlush g k p f
 unfolding leavingFor planFlush
-flush-plan g k p f r e = ap planOf e ∙ leaves (dueChecks g (partitionOf g k) 1 p f) (dropped g (partitionOf g k) p f)
+flush-plan g k p f r e = ap planOf e ∙ leaves (dueChecks g (partitionOf g k) 1 p f) (leaving g (partitionOf g k) p f)
 
 -- ---- a put that flushes nothing: room for the entry, no entry more, or 12
 module _ (g : Geometry) (k : ℕ) (p : List ℕ) (fits : keyOverfull g k p ≡ false) where
@@ -85,7 +85,7 @@ module _ (g : Geometry) (k v : ℕ) (p f : List ℕ) where
     module _ (h : keyOverfull g k p ≡ false) where
       pub not-due : due g k p ≡ false → planFor g k v p f ≡ planStore g k p
       unfolding planFor planStore
-      not-due d = rw (put-undue g k p v f position h d, d) (stays (refuseIf (totalOut g (appends g k p) 0 (headOf p)) 12 none) (dropped g (partitionOf g k) p f))
+      not-due d = rw (put-undue g k p v f position h d, d) (stays (refuseIf (totalOut g (appends g k p) 0 (headOf p)) 12 none) (leaving g (partitionOf g k) p f))
 
       module _ (d : due g k p ≡ true) where
         pub some-over : somePageOverfull g p ≡ true → planFor g k v p f ≡ Refused (ofRefusal (unread 12))
@@ -100,9 +100,9 @@ module _ (g : Geometry) (k v : ℕ) (p f : List ℕ) where
   abbrev pub Means : Plan → Type 0
   Means (Refused r) = putChecks g k v p f ≡ some (asRefusal r)
   Means Store = (putChecks g k v p f ≡ none) × (due g k p ≡ false)
-  Means (Flush n) = (putChecks g k v p f ≡ none) × (due g k p ≡ true) × (n ≡ dropped g (partitionOf g k) p f)
+  Means (Flush n) = (putChecks g k v p f ≡ none) × (due g k p ≡ true) × (n ≡ leaving g (partitionOf g k) p f)
 
-  means-with : (o : Option Refusal) (b : Bool) → putChecks g k v p f ≡ o → due g k p ≡ b → Means (planWith o b (dropped g (partitionOf g k) p f))
+  means-with : (o : Option Refusal) (b : Bool) → putChecks g k v p f ≡ o → due g k p ≡ b → Means (planWith o b (leaving g (partitionOf g k) p f))
   means-with (some r) b e d = e
   means-with none false e d = (e, d)
   means-with none true e d = (e, d, refl)
@@ -128,5 +128,5 @@ module _ (g : Geometry) (k v : ℕ) (p f : List ℕ) where
           let due = w .3 d in
           flushable g t p words below (key-fits g p k (w .1) .0) (due .0) (due-accepted g (partitionOf g k) 1 p f (due .1) .0)
 
-      pub can-drop : dropped g (partitionOf g k) p f ≤ totalOf p + 1
-      can-drop = total-in g (headOf p) 1 _ (due-accepted g (partitionOf g k) 1 p f (put-accepted g k p v f h .3 d .1) .2) .0
+      pub can-leave : leaving g (partitionOf g k) p f ≤ totalOf p + 1
+      can-leave = total-in g (headOf p) 1 _ (due-accepted g (partitionOf g k) 1 p f (put-accepted g k p v f h .3 d .1) .2) .0

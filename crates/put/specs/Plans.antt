@@ -1,4 +1,4 @@
--- What a put does, from its checks, from whether a flush is due and from the entries that it drops.
+-- What a put does, from its checks, from whether a flush is due and from the entries that leave.
 use Prim.Native.Nat.{ℕ}
 use mathlib.Core.Bool.{Bool, true, false}
 use mathlib.Core.List.{List}
@@ -6,7 +6,7 @@ use mathlib.Core.Option.{Option, none, some}
 use Rattle.model.specs.declared.Geometry.{Geometry}
 use Rattle.model.specs.Keys.{partitionOf}
 use Rattle.model.specs.Partition.{headOf}
-use Rattle.model.specs.Batch.{dropped}
+use Rattle.model.specs.Batch.{leaving}
 use Rattle.model.specs.Answers.{Refusal}
 use Rattle.model.specs.Refusals.{refuseIf, totalOut}
 use Rattle.model.specs.Flush.{dueChecks}
@@ -25,7 +25,7 @@ unfoldable pub planStore : Geometry → ℕ → List ℕ → Plan
 planStore g k p = planWith (refuseIf (totalOut g (appends g k p) 0 (headOf p)) 12 none) false 0
 
 unfoldable pub planFlush : Geometry → ℕ → List ℕ → List ℕ → Plan
-planFlush g k p f = planWith (dueChecks g (partitionOf g k) 1 p f) true (dropped g (partitionOf g k) p f)
+planFlush g k p f = planWith (dueChecks g (partitionOf g k) 1 p f) true (leaving g (partitionOf g k) p f)
 
 unfoldable pub planFor : Geometry → ℕ → ℕ → List ℕ → List ℕ → Plan
-planFor g k v p f = planWith (putChecks g k v p f) (due g k p) (dropped g (partitionOf g k) p f)
+planFor g k v p f = planWith (putChecks g k v p f) (due g k p) (leaving g (partitionOf g k) p f)

@@ -31,11 +31,12 @@ module _ (line : List ℕ) (next : ℕ) where
   end-here (some c) p e l = rw (e, drop-of-length-le line l)
 
 -- ---- the first form that is not Bad
-pub first-call : (f : Form) {o : Option Call} (rest : Option Call) → formCall f ≡ o → OneOf (0 ∷ 1 ∷ 2 ∷ 3 ∷ 4 ∷ 5 ∷ []) (tagOf the-type f) → formCall f ≡ orElse o rest
+pub first-call : (f : Form) {o : Option Call} (rest : Option Call) → formCall f ≡ o → OneOf (0 ∷ 1 ∷ 2 ∷ 3 ∷ 4 ∷ 5 ∷ 6 ∷ []) (tagOf the-type f) → formCall f ≡ orElse o rest
 first-call (Form.Format g) rest e h = rw (← e)
 first-call (Form.Put k v) rest e h = rw (← e)
 first-call (Form.Get k) rest e h = rw (← e)
 first-call (Form.Del k) rest e h = rw (← e)
 first-call (Form.Flush t) rest e h = rw (← e)
 first-call (Form.Count t) rest e h = rw (← e)
-first-call Form.Bad rest e h = absurd (miss (0 ∷ 1 ∷ 2 ∷ 3 ∷ 4 ∷ 5 ∷ []) 6 tt h)
+first-call (Form.Drop t) rest e h = rw (← e)
+first-call Form.Bad rest e h = absurd (miss (0 ∷ 1 ∷ 2 ∷ 3 ∷ 4 ∷ 5 ∷ 6 ∷ []) 7 tt h)

@@ -17,5 +17,6 @@ pub enum Form {
     Del(u64),
     Flush(u32),
     Count(u32),
+    Drop(u32),
     Bad,
 }

@@ -4,7 +4,7 @@ ghost use mathlib.Core.Option.{Option};
 ghost use lib.ListN.{drop};
 ghost use Rattle.model.specs.Text.{past};
 ghost use Rattle.model.specs.Calls.{Call};
-ghost use Rattle.model.specs.Session.{then, atEnd, putLine, getLine, delLine, flushLine, countLine, formatLine, callOf};
+ghost use Rattle.model.specs.Session.{then, atEnd, putLine, getLine, delLine, flushLine, countLine, dropLine, formatLine, callOf};
 ghost use Rattle.reader.specs.Forms.{formCall};
 ghost use Rattle.reader.specs.Threes.{ThreeFigures, threeIn, threePast};
 use crate::Form;
@@ -81,6 +81,15 @@ fn read_count(line: &[u8]) -> Form
     ending(line, at, b")", Form::Count(partition))
 }
 
+fn read_drop(line: &[u8]) -> Form
+    ensures { λ r. ⌜ formCall r ≡ dropLine (now (line .entry)) ⌝ }
+{
+    let Narrow::Read(partition, at) = narrow_past(line, 0, b"(drop ") else {
+        return Form::Bad;
+    };
+    ending(line, at, b")", Form::Drop(partition))
+}
+
 // Three numbers, each behind a text of its own.
 fn three_past(line: &[u8], at: usize, first: &[u8], second: &[u8], third: &[u8]) -> Three
     ensures { λ r. ⌜ ((f : ThreeFigures → Option Call) → then (threeIn (now (line .entry)) r) f ≡ threePast (now (first .entry)) (now (second .entry)) (now (third .entry)) (drop at (now (line .entry))) f) ⌝ }
@@ -154,6 +163,10 @@ pub fn read_line(line: &[u8]) -> Form
         return form;
     };
     let form = read_count(line);
+    let Form::Bad = form else {
+        return form;
+    };
+    let form = read_drop(line);
     let Form::Bad = form else {
         return form;
     };

@@ -25,14 +25,14 @@ pub record Readable (g : Geometry) (t : ℕ) (p f : List ℕ) : Type 0 where
   pub batches : someBatchFails g t p f ≡ false
 
 -- the buffer, or a live batch
-abbrev pub IsSource : Geometry → Head → model.Place → Type 0
-IsSource g h buffer = Unit {0}
-IsSource g h (batch n) = isLive g h n ≡ true
+abbrev pub IsSource : Head → model.Place → Type 0
+IsSource h buffer = Unit {0}
+IsSource h (batch n) = isLive h n ≡ true
 
 -- a page of one of them
 pub record IsSpot (g : Geometry) (s : Spot) (p f : List ℕ) : Type 0 where
   pub readable : Readable g (s .partition) p f
-  pub source : IsSource g (headOf p) (told.place (s .at))
+  pub source : IsSource (headOf p) (told.place (s .at))
   pub below : s .page < g .pages
 
 -- what the definitions say of it

@@ -5,7 +5,7 @@ ghost use Prim.Native.Nat.{_≤_, _<_};
 ghost use lib.ListN.{length};
 ghost use Rattle.model.specs.Geometry.{allowed, partitions, flashNeed};
 ghost use Rattle.model.specs.Search.{isSome};
-ghost use Rattle.model.specs.Partition.{headOf, live};
+ghost use Rattle.model.specs.Partition.{headOf};
 ghost use Rattle.model.specs.Batch.{failedPage};
 ghost use Rattle.model.specs.Refusals.{headOverfull};
 ghost use Rattle.model.specs.PartitionText.{source, someBatchFails};
@@ -27,12 +27,12 @@ pub struct Spot {
 pub fn source(part: &[u8], g: Geometry, i: u32) -> Place
     requires { ⌜ Whole g (now part) ⌝ }
     requires { ⌜ headOverfull g (headOf (now part)) ≡ false ⌝ }
-    ensures { λ r. ⌜ told.place r ≡ source g (headOf (now (part .entry))) i ⌝ }
+    ensures { λ r. ⌜ told.place r ≡ source (headOf (now (part .entry))) i ⌝ }
 {
     let head = Head::read(part);
-    let live = head.live(g);
+    let live = head.live;
     if i < live {
-        return Place::Batch(head.flushes - live + i + 1);
+        return Place::Batch(head.flushes - live + 1 + i);
     }
     Place::Buffer
 }
@@ -87,11 +87,11 @@ pub fn is_some_failed(part: &[u8], flash: &[u8], g: Geometry, t: u32) -> bool
     ensures { λ r. ⌜ r ≡ someBatchFails g t (now (part .entry)) (now (flash .entry)) ⌝ }
 {
     let head = Head::read(part);
-    let live = head.live(g);
-    let dead = head.flushes - live;
+    let count = head.live;
+    let dead = head.flushes - count;
     let mut i: u32 = 0;
-    while i < live {
-        if is_failed(flash, g, t, dead + i + 1) {
+    while i < count {
+        if is_failed(flash, g, t, dead + 1 + i) {
             return true;
         }
         i += 1;

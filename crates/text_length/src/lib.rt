@@ -55,7 +55,7 @@ fn page_length<'a>(part: &'a [u8], flash: &'a [u8], g: Geometry, spot: Spot) -> 
 // Of a source.
 fn source_length<'a>(part: &'a [u8], flash: &'a [u8], g: Geometry, t: u32, at: Place) -> usize
     requires { ⌜ Readable g t (now part) (now flash) ⌝ }
-    requires { ⌜ IsSource g (headOf (now part)) (told.place at) ⌝ }
+    requires { ⌜ IsSource (headOf (now part)) (told.place at) ⌝ }
     ensures { λ r. ⌜ r ≡ length (sourceText g t (now (part .entry)) (now (flash .entry)) (told.place at)) ⌝ }
 {
     let mut length: usize = 0;
@@ -77,7 +77,7 @@ pub fn text_length<'a>(part: &'a [u8], flash: &'a [u8], g: Geometry, t: u32) -> 
     requires { ⌜ Readable g t (now part) (now flash) ⌝ }
     ensures { λ r. ⌜ r ≡ length (partitionText g t (now (part .entry)) (now (flash .entry))) ⌝ }
 {
-    let last = Head::read(part).live(g);
+    let last = Head::read(part).live;
     let mut length: usize = 0;
     let mut i: u32 = 0;
     while i <= last {

@@ -77,7 +77,7 @@ fn write_source<'a>(
     at: Place,
 ) -> usize
     requires { ⌜ Readable g t (now part) (now flash) ⌝ }
-    requires { ⌜ IsSource g (headOf (now part)) (told.place at) ⌝ }
+    requires { ⌜ IsSource (headOf (now part)) (told.place at) ⌝ }
     requires { ⌜ from + length (sourceText g t (now part) (now flash) (told.place at)) ≤ length (now text) ⌝ }
     ensures { λ r. ⌜ Puts (sourceText g t (now (part .entry)) (now (flash .entry)) (told.place at)) from (now (text .entry)) r (now (text .exit)) ⌝ }
 {
@@ -101,7 +101,7 @@ pub fn write<'a>(text: &mut [u8], part: &'a [u8], flash: &'a [u8], g: Geometry, 
     requires { ⌜ length (partitionText g t (now part) (now flash)) ≤ length (now text) ⌝ }
     ensures { λ _. ⌜ now (text .exit) ≡ sets (now (text .entry)) 0 (partitionText g t (now (part .entry)) (now (flash .entry))) ⌝ }
 {
-    let last = Head::read(part).live(g);
+    let last = Head::read(part).live;
     let mut end: usize = 0;
     let mut i: u32 = 0;
     while i <= last {

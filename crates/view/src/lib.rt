@@ -39,7 +39,7 @@ pub fn decide(part: &[u8], g: Geometry, t: u32, q: u32, n: u32) -> Verdict
         }
         return Verdict::Accepted;
     }
-    if !head.is_live(g, n) {
+    if !head.is_live(n) {
         return Verdict::Refused(Refusal {
             number: 17,
             reads: 0,

@@ -18,13 +18,14 @@ pub struct Count {
     pub rust: f64,
 }
 
-const KINDS: [(&str, Kind); 6] = [
+const KINDS: [(&str, Kind); 7] = [
     ("put", Kind::Put),
     ("get", Kind::Get),
     ("get-put", Kind::GetThenPut),
     ("del", Kind::Del),
     ("flush", Kind::Flush),
     ("text", Kind::Text),
+    ("drop", Kind::Drop),
 ];
 
 pub fn is_there() -> bool {

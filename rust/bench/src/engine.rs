@@ -63,4 +63,9 @@ impl Index for Engine {
         let answer = raw::text(memory, flash, partition, text);
         done(answer).map(|_| answer.value as u32)
     }
+
+    #[inline]
+    fn drop_oldest(memory: &mut [u8], flash: &[u8], partition: u32) -> Done {
+        done(raw::drop_oldest(memory, flash, partition))
+    }
 }

@@ -4,7 +4,7 @@ use crate::index::{Index, RustIndex};
 use crate::random::Random;
 use crate::tables::Tables;
 
-/// One operation's arguments. A flush and a text have their partition as the key.
+/// One operation's arguments. A flush, a text and a drop have their partition as the key.
 #[derive(Clone, Copy, PartialEq, Eq, Debug)]
 pub struct Op {
     pub table: u64,
@@ -106,10 +106,9 @@ fn word(bytes: &[u8], at: usize) -> u64 {
 /// Flushes done by a partition, and its live batches.
 pub fn flushes_and_live(tables: &Tables, table: usize, partition: usize) -> (u32, u32) {
     let layout = tables.geometry.layout().expect("an allowed geometry");
-    let at = layout.partition_at(partition);
-    let head = &tables.areas(table).0[at..at + 4];
-    let flushes = u32::from_le_bytes(head.try_into().expect("4 bytes"));
-    (flushes, flushes.min(tables.geometry.kept))
+    let head = &tables.areas(table).0[layout.partition_at(partition)..];
+    let number = |at: usize| u32::from_le_bytes(head[at..at + 4].try_into().expect("4 bytes"));
+    (number(0), number(12))
 }
 
 /// A random entry that stands there.

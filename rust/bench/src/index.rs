@@ -24,6 +24,7 @@ pub trait Index {
     fn del(memory: &mut [u8], flash: &[u8], key: u64) -> Done;
     fn flush(memory: &mut [u8], flash: &mut [u8], partition: u32) -> Done;
     fn text(memory: &[u8], flash: &[u8], partition: u32, text: &mut [u8]) -> Done;
+    fn drop_oldest(memory: &mut [u8], flash: &[u8], partition: u32) -> Done;
 }
 
 /// The independent index of `rust/reference`.
@@ -52,6 +53,11 @@ fn flush(memory: &mut [u8], flash: &mut [u8], partition: u32) -> Result<u32, Ref
 #[inline(never)]
 fn text(memory: &[u8], flash: &[u8], partition: u32, text: &mut [u8]) -> Result<usize, Refusal> {
     reference::text(memory, flash, partition, text)
+}
+
+#[inline(never)]
+fn drop_oldest(memory: &mut [u8], flash: &[u8], partition: u32) -> Result<(), Refusal> {
+    reference::drop_oldest(memory, flash, partition)
 }
 
 impl Index for RustIndex {
@@ -110,6 +116,14 @@ impl Index for RustIndex {
     fn text(memory: &[u8], flash: &[u8], partition: u32, area: &mut [u8]) -> Done {
         match text(memory, flash, partition, area) {
             Ok(length) => Ok(length as u32),
+            Err(refusal) => Err(refusal.number()),
+        }
+    }
+
+    #[inline]
+    fn drop_oldest(memory: &mut [u8], flash: &[u8], partition: u32) -> Done {
+        match drop_oldest(memory, flash, partition) {
+            Ok(()) => Ok(0),
             Err(refusal) => Err(refusal.number()),
         }
     }

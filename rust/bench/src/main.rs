@@ -30,7 +30,7 @@ use tables::{Start, Tables};
 use work::{Kind, State, Work};
 
 const USAGE: &str = "bench --docs FOLDER [--folder FOLDER] [--kit TEXT] [--only G|middle|largest]
-bench --count put|get|get-put|del|flush|text engine|rust N FOLDER";
+bench --count put|get|get-put|del|flush|text|drop engine|rust N FOLDER";
 
 /// One row of a geometry's table.
 pub struct Row {

@@ -202,8 +202,8 @@ fn rivals(page: &mut String, part: &Part) {
     page.push_str(&"--:|".repeat(part.rivals.len()));
     page.push('\n');
     for (place, row) in part.rows.iter().enumerate() {
-        // Of the other stores none has a flush like it, nor a text.
-        if row.bytes.is_some() {
+        // Of the other stores none has a flush like it, nor a text or a drop.
+        if part.rivals.iter().all(|(_, rates)| rates[place].is_none()) {
             continue;
         }
         let _ = write!(page, "| {} | {} |", row.name, millions(row.timing.engine));

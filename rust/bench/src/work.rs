@@ -15,6 +15,7 @@ pub enum Kind {
     Del,
     Flush,
     Text,
+    Drop,
 }
 
 impl Kind {
@@ -50,6 +51,7 @@ pub const MIXED: &str = "get then put, 40 % found";
 pub const DEL: &str = "del";
 pub const FLUSH: &str = "flush alone";
 pub const TEXT: &str = "text of a partition";
+pub const DROP: &str = "drop of the oldest batch";
 
 /// Partitions of a large table that are written as text: each takes long.
 const TEXTS: usize = 16;
@@ -76,6 +78,7 @@ pub fn all(tables: &mut Tables, shape: &Shape, random: &mut Random) -> Vec<Work>
     let mixed = mixed(tables, shape, random);
     let flushes = partitions(tables).collect();
     let texts = partitions(tables).take(tables.count.max(TEXTS)).collect();
+    let drops = drops(tables, shape);
     vec![
         row(PUT, Kind::Put, State::Filled, puts),
         row(IN_BUFFER, Kind::Get, State::Filled, buffer),
@@ -87,6 +90,7 @@ pub fn all(tables: &mut Tables, shape: &Shape, random: &mut Random) -> Vec<Work>
         row(DELETED, Kind::Get, State::Deleted, deleted),
         row(FLUSH, Kind::Flush, State::Full, flushes),
         row(TEXT, Kind::Text, State::Filled, texts),
+        row(DROP, Kind::Drop, State::Deleted, drops),
     ]
 }
 
@@ -157,6 +161,12 @@ fn partitions(tables: &Tables) -> impl Iterator<Item = Op> {
     })
 }
 
+/// All live batches of each partition, the partitions by turns.
+fn drops(tables: &Tables, shape: &Shape) -> Vec<Op> {
+    let live = shape.flushes.min(tables.geometry.kept);
+    (0..live).flat_map(|_| partitions(tables)).collect()
+}
+
 /// The bytes and the lines of the texts that the operations write.
 pub fn text_sizes(tables: &mut Tables, ops: &[Op]) -> (usize, usize) {
     let (mut bytes, mut lines) = (0, 0);
@@ -205,12 +215,7 @@ fn tell(sum: u64, got: Result<Got, u32>) -> u64 {
 pub fn run<I: Index>(kind: Kind, tables: &mut Tables, ops: &[Op]) -> u64 {
     let mut sum = 0;
     match kind {
-        Kind::Put => {
-            for op in ops {
-                let (memory, flash) = tables.areas_mut(op.table as usize);
-                sum = note(sum, I::put(memory, flash, op.key, op.value));
-            }
-        }
+        Kind::Put => sum = change(tables, ops, |m, f, op| I::put(m, f, op.key, op.value)),
         Kind::Get => {
             for op in ops {
                 let (memory, flash) = tables.areas(op.table as usize);
@@ -224,19 +229,25 @@ pub fn run<I: Index>(kind: Kind, tables: &mut Tables, ops: &[Op]) -> u64 {
                 sum = note(sum, I::put(memory, flash, op.key, op.value));
             }
         }
-        Kind::Del => {
-            for op in ops {
-                let (memory, flash) = tables.areas_mut(op.table as usize);
-                sum = note(sum, I::del(memory, flash, op.key));
-            }
-        }
-        Kind::Flush => {
-            for op in ops {
-                let (memory, flash) = tables.areas_mut(op.table as usize);
-                sum = note(sum, I::flush(memory, flash, op.key as u32));
-            }
-        }
+        Kind::Del => sum = change(tables, ops, |m, f, op| I::del(m, f, op.key)),
+        Kind::Flush => sum = change(tables, ops, |m, f, op| I::flush(m, f, op.key as u32)),
         Kind::Text => sum = write_texts::<I>(tables, ops),
+        Kind::Drop => sum = change(tables, ops, |m, f, op| I::drop_oldest(m, f, op.key as u32)),
+    }
+    sum
+}
+
+/// Makes one call on the areas for each operation.
+#[inline(always)]
+fn change(
+    tables: &mut Tables,
+    ops: &[Op],
+    call: impl Fn(&mut [u8], &mut [u8], &Op) -> Done,
+) -> u64 {
+    let mut sum = 0;
+    for op in ops {
+        let (memory, flash) = tables.areas_mut(op.table as usize);
+        sum = note(sum, call(memory, flash, op));
     }
     sum
 }

@@ -57,6 +57,11 @@ static mx_answer del(uint64_t key)
     return mx_del(memory, sizeof memory, flash, sizeof flash, key);
 }
 
+static mx_answer drop_oldest(void)
+{
+    return mx_drop(memory, sizeof memory, flash, sizeof flash, 0);
+}
+
 static void show_count(void)
 {
     mx_answer a = mx_count(memory, sizeof memory, flash, sizeof flash, 0);
@@ -110,5 +115,11 @@ int main(void)
     show_page(2);
     show("flush", mx_flush(memory, sizeof memory, flash, sizeof flash, 0));
     show("flush", mx_flush(memory, sizeof memory, flash, sizeof flash, 0));
+    show("drop", drop_oldest()); /* batch 1 goes, and key 2 leaves the list with it */
+    show("get 1", get(1));
+    show("get 4", get(4));
+    show_count();
+    show("drop", drop_oldest());
+    show("drop", drop_oldest()); /* no batch is left */
     return 0;
 }

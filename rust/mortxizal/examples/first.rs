@@ -67,6 +67,20 @@ fn write_text(output: &mut impl Write, index: &Index) -> Result<(), Box<dyn std:
     Ok(())
 }
 
+/// Batch 1 goes, and key 2 leaves the list with it; then batch 2, and no batch is left.
+fn write_drops(output: &mut impl Write, index: &mut Index) -> io::Result<()> {
+    let dropped = |index: &mut Index| pages(index.drop_oldest(0).map(|()| 0));
+    writeln!(output, "drop: {}", dropped(index))?;
+    for key in [1, 4] {
+        writeln!(output, "get {key}: {}", lookup(index.get(key)))?;
+    }
+    writeln!(output, "count: {}", entries(index.count(0)))?;
+    for _ in 0..2 {
+        writeln!(output, "drop: {}", dropped(index))?;
+    }
+    Ok(())
+}
+
 /// Writes what `first.c` writes.
 pub fn run(output: &mut impl Write) -> Result<(), Box<dyn std::error::Error>> {
     let geometry = geometry();
@@ -102,6 +116,7 @@ pub fn run(output: &mut impl Write) -> Result<(), Box<dyn std::error::Error>> {
     for _ in 0..2 {
         writeln!(output, "flush: {}", pages(index.flush(0)))?;
     }
+    write_drops(output, &mut index)?;
     Ok(())
 }
 

@@ -21,7 +21,7 @@ pub struct Geometry {
     pub page: u32,
     /// Q: pages in a batch, among which a key's mixed bits choose. A power of two, 1 to 64.
     pub pages: u32,
-    /// K: batches kept per partition. 1 to 32.
+    /// K: the most batches kept per partition. 1 to 32.
     pub kept: u32,
     /// M: bits in the filter of a batch. A power of two, 64 to 65536.
     pub bits: u32,

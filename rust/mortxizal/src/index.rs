@@ -52,7 +52,7 @@ impl Lookup {
 
 /// A table in two borrowed areas, memory and flash.
 ///
-/// All its state is in the areas. An index may be dropped and taken up again
+/// All its state is in the areas. An index may be let go and taken up again
 /// later with [`Index::attach`], also in another process, as long as the bytes
 /// of both areas come back together.
 ///
@@ -97,6 +97,10 @@ impl<'a> Index<'a> {
     /// Takes up the table that the areas hold. Nothing is checked here: where
     /// they hold none, or a damaged one, its calls are refused.
     ///
+    /// A table that was filled before its partitions had a number of live batches
+    /// has to be formatted anew. That number is 0 in it, and nothing in its bytes
+    /// tells so: no key of its batches is found.
+    ///
     /// ```
     /// use mortxizal::{Index, Refused};
     ///
@@ -128,10 +132,10 @@ impl<'a> Index<'a> {
     /// partition was flushed first.
     ///
     /// A flush makes the buffer a batch. Where [`Geometry::kept`] batches are
-    /// live already the oldest one goes, and with it its keys that were not put
-    /// again since. The heads of its pages are read first, to take its entries
-    /// off the [count](Index::count): where one is not the head expected there
-    /// the put is refused with [`BatchPage`](Refused::BatchPage).
+    /// live already the oldest one is pushed out, and with it its keys that were
+    /// not put again since. The heads of its pages are read first, to take its
+    /// entries off the [count](Index::count): where one is not the head expected
+    /// there the put is refused with [`BatchPage`](Refused::BatchPage).
     ///
     /// Every key is allowed, and every value but 0: the sound store has nothing
     /// at position 0, and from a format on no get shows it.
@@ -154,7 +158,9 @@ impl<'a> Index<'a> {
     }
 
     /// Looks the key up, in the buffer and then in the live batches whose
-    /// filter passes, youngest first.
+    /// filter passes, youngest first. A key that was put is found until it is
+    /// deleted, or until the batch that it went to is pushed out by a flush or
+    /// [dropped](Index::drop_oldest).
     ///
     /// ```
     /// # use mortxizal::{Geometry, Index};
@@ -194,8 +200,8 @@ impl<'a> Index<'a> {
     }
 
     /// Makes the partition's buffer a batch in flash: the pages written, which
-    /// are [`Geometry::pages`]. Where the oldest batch goes for it, its pages'
-    /// heads are read first, as in a [put](Index::put).
+    /// are [`Geometry::pages`]. Where it pushes the oldest batch out, the heads of
+    /// that one's pages are read first, as in a [put](Index::put).
     #[inline]
     pub fn flush(&mut self, partition: u32) -> Result<u32, Refused> {
         let answer = raw::flush(self.memory, self.flash, partition);
@@ -227,6 +233,39 @@ impl<'a> Index<'a> {
     pub fn count(&self, partition: u32) -> Result<u32, Refused> {
         let answer = raw::count(self.memory, self.flash, partition);
         Ok(accepted(answer)?.number)
+    }
+
+    /// Drops the partition's oldest live batch: its keys that were not put again
+    /// since are found no more, its entries leave the [count](Index::count), and
+    /// keys that were listed as deleted for this batch leave the list. Flash and
+    /// filters stay as they are: its place in flash is written over when a later
+    /// flush comes to it.
+    ///
+    /// The heads of its pages are read first, as in a flush that pushes it out,
+    /// and the call is refused with [`BatchPage`](Refused::BatchPage) where one is
+    /// not the head expected there. With no live batch it is refused with
+    /// [`NoBatch`](Refused::NoBatch).
+    ///
+    /// ```
+    /// # use mortxizal::{Geometry, Index, Refused};
+    /// # let geometry = Geometry { parts: 1, ..Geometry::default() };
+    /// # let mut memory = vec![0; geometry.memory_need()?];
+    /// # let mut flash = vec![0; geometry.flash_need()?];
+    /// # let mut index = Index::format(&mut memory, &mut flash, geometry)?;
+    /// index.put(7, 70)?;
+    /// index.flush(0)?;
+    /// index.put(8, 80)?;
+    /// index.drop_oldest(0)?;
+    /// assert_eq!(index.get(7)?.value(), None);
+    /// assert_eq!(index.get(8)?.value(), Some(80));
+    /// assert_eq!(index.count(0)?, 1);
+    /// assert_eq!(index.drop_oldest(0), Err(Refused::NoBatch));
+    /// # Ok::<(), mortxizal::Refused>(())
+    /// ```
+    #[inline]
+    pub fn drop_oldest(&mut self, partition: u32) -> Result<(), Refused> {
+        accepted(raw::drop_oldest(self.memory, self.flash, partition))?;
+        Ok(())
     }
 
     /// Writes the partition to the text area as lines of the session program,

@@ -3,7 +3,7 @@
 //! Puts gather in a buffer in memory and go to flash in batches, with a Bloom
 //! filter in front of each batch and a list of deleted keys, after the published
 //! BufferHash design. Only the latest batches are kept: an old key goes with
-//! its batch unless it is put again.
+//! its batch, pushed out by a flush or dropped on request, unless it is put again.
 //!
 //! The work is done by a library written in Rattle, in which every call is
 //! proved to answer and to leave, byte for byte, what the index's definition

@@ -27,7 +27,7 @@ pub struct Answer {
     pub value: u64,
 }
 
-/// The status of an accepted format, put, del, flush, view, count or text.
+/// The status of an accepted format, put, del, flush, view, count, text or drop.
 pub const DONE: u32 = 0;
 /// The status of a get that found the key.
 pub const FOUND: u32 = 1;
@@ -107,6 +107,13 @@ mod c {
             text: *mut u8,
             text_len: usize,
         ) -> Answer;
+        pub fn mx_drop(
+            memory: *mut u8,
+            memory_len: usize,
+            flash: *const u8,
+            flash_len: usize,
+            partition: u32,
+        ) -> Answer;
     }
 }
 
@@ -185,4 +192,12 @@ pub fn text(memory: &[u8], flash: &[u8], partition: u32, text: &mut [u8]) -> Ans
     let (m, f, t) = (memory.as_ptr(), flash.as_ptr(), text.as_mut_ptr());
     // SAFETY: the pointers and lengths are those of three slices.
     unsafe { c::mx_text(m, memory.len(), f, flash.len(), partition, t, text.len()) }
+}
+
+/// Drops the partition's oldest live batch.
+#[inline]
+pub fn drop_oldest(memory: &mut [u8], flash: &[u8], partition: u32) -> Answer {
+    let (m, f) = (memory.as_mut_ptr(), flash.as_ptr());
+    // SAFETY: the pointers and lengths are those of two slices.
+    unsafe { c::mx_drop(m, memory.len(), f, flash.len(), partition) }
 }

@@ -24,25 +24,28 @@ pub enum Refused {
     ShortMemory,
     /// 3: flash is shorter than the table needs.
     ShortFlash,
-    /// 4: there is no such partition (flush, view, count, text) or page (view).
+    /// 4: there is no such partition (flush, view, count, text, drop) or page
+    /// (view).
     OutOfRange,
     /// 11: memory does not open with an allowed geometry: it was never
     /// formatted, or it is damaged. Every call but format gives it.
     Opening,
     /// 12: the partition lists more keys than it has places for, a buffer page
     /// that the call reads counts more entries than fit (a text reads them all),
-    /// or the partition's total is above what fits, or would end above that or
-    /// below 0 (put, del, flush): memory is damaged, or was filled before totals
-    /// were kept and has to be formatted anew.
+    /// more batches are live than are kept or were flushed, or the partition's
+    /// total is above what fits, or would end above that or below 0 (put, del,
+    /// flush, drop): memory is damaged, or was filled before totals or numbers of
+    /// live batches were kept and has to be formatted anew.
     Overfull,
     /// 13: a page read from flash is not the one expected there (get, view, text,
-    /// and put and flush where a batch goes): flash is damaged, or memory is.
+    /// drop, and put and flush where a batch is pushed out): flash is damaged, or
+    /// memory is.
     BatchPage {
         /// The flash pages read, with this one; of a text always 0.
         reads: u32,
     },
     /// 14: the key has to be listed as deleted, and its partition's list is
-    /// full (del). Flushes of the partition free places.
+    /// full (del). Flushes and drops of the partition free places.
     ListFull,
     /// 15: the partition's buffer has nothing to flush (flush).
     BufferEmpty,
@@ -54,6 +57,8 @@ pub enum Refused {
     NoPosition,
     /// 22: the text area is too short for the text (text).
     ShortText,
+    /// 23: the partition has no live batch (drop).
+    NoBatch,
 }
 
 impl Refused {
@@ -73,6 +78,7 @@ impl Refused {
             Refused::NotLive => 17,
             Refused::NoPosition => 21,
             Refused::ShortText => 22,
+            Refused::NoBatch => 23,
         }
     }
 
@@ -105,6 +111,7 @@ impl Refused {
             17 => Refused::NotLive,
             21 => Refused::NoPosition,
             22 => Refused::ShortText,
+            23 => Refused::NoBatch,
             // The library is proved to give no other.
             number => unreachable!("refusal {number}"),
         })
@@ -120,7 +127,7 @@ impl fmt::Display for Refused {
             Refused::OutOfRange => "there is no such partition or page",
             Refused::Opening => "memory holds no table",
             Refused::Overfull => {
-                "memory is damaged: a list, a buffer page or the total counts wrongly"
+                "memory is damaged: a list, a buffer page, the total or the live number counts wrongly"
             }
             Refused::BatchPage { .. } => "a page of flash is not the one expected there",
             Refused::ListFull => "the list of deleted keys is full",
@@ -129,6 +136,7 @@ impl fmt::Display for Refused {
             Refused::NotLive => "there is no live batch with this flush number",
             Refused::NoPosition => "the value is 0, which is no position",
             Refused::ShortText => "the text area is too short for the text",
+            Refused::NoBatch => "there is no live batch",
         };
         write!(output, "{text} (refusal {})", self.number())
     }

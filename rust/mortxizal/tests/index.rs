@@ -124,7 +124,7 @@ fn counts_of_a_partition() {
     assert_eq!(index.count(0), Ok(3));
     index.del(3).unwrap();
     assert_eq!(index.count(0), Ok(2));
-    // Two entries, then one, then one: the third flush drops the two.
+    // Two entries, then one, then one: the third flush pushes the two out.
     for (key, count) in [(1, 2), (4, 3), (4, 2)] {
         index.put(key, 3).unwrap();
         assert_eq!(index.flush(0), Ok(1));
@@ -152,6 +152,7 @@ fn a_total_that_cannot_be() {
     assert_eq!(index.flush(0), Err(Refused::Overfull));
     assert_eq!(index.view(0, 0, 0), Err(Refused::Overfull));
     assert_eq!(text_of(&index, 0), Err(Refused::Overfull));
+    assert_eq!(index.drop_oldest(0), Err(Refused::Overfull));
     memory[40] = 9;
     let mut index = Index::attach(&mut memory, &mut flash);
     assert_eq!(index.count(0), Ok(9));
@@ -165,7 +166,7 @@ fn a_total_that_cannot_be() {
 }
 
 #[test]
-fn a_batch_that_goes_is_looked_at() {
+fn a_batch_that_is_pushed_out_is_looked_at() {
     let g = Geometry { pages: 2, ..G };
     let (mut memory, mut flash) = areas(g);
     let mut index = Index::format(&mut memory, &mut flash, g).unwrap();
@@ -274,6 +275,7 @@ fn areas_of_no_bytes() {
     assert_eq!(index.view(0, 0, 0), Err(short));
     assert_eq!(index.count(0), Err(short));
     assert_eq!(index.text(0, &mut []), Err(short));
+    assert_eq!(index.drop_oldest(0), Err(short));
     assert_eq!(Index::format(&mut [], &mut [], G).unwrap_err(), short);
 }
 

@@ -19,6 +19,7 @@ HOLDS(largest_memory, MX_MEMORY_NEED(8, 4096, 64, 32, 65536, 1024) == 138416160)
 HOLDS(largest_flash, MX_FLASH_NEED(8, 4096, 64, 32) == 2147483648);
 
 HOLDS(short_text, MX_REFUSED_SHORT_TEXT == 22);
+HOLDS(no_batch, MX_REFUSED_NO_BATCH == 23);
 HOLDS(longest_line, sizeof "(put 18446744073709551615 18446744073709551615)\n" - 1 == 48);
 
 int main(void)

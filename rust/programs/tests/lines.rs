@@ -48,6 +48,14 @@ const BAD: &[&str] = &[
     "(count 00)",
     "(count 4294967296)",
     "(counts 0)",
+    "(drop)",
+    "(drop )",
+    "(drop 0 0)",
+    "(drop 00)",
+    "(drop -1)",
+    "(drop 4294967296)",
+    "(drops 0)",
+    "(DROP 0)",
     "(view 0 0 0)",
     "(text 0)",
     "(format)",
@@ -99,10 +107,11 @@ fn the_longest_forms() {
     assert_eq!(format.len(), 138);
     let put = format!("(put {wide} {wide})");
     assert_eq!(put.len(), 47);
-    let input =
-        format!("{format}\n{FORMAT}\n{put}\n(get {wide})\n(flush {most})\n(count {most})\n");
-    let output =
-        format!("(refused 1 0)\n(ok 0)\n(ok 0)\n(found {wide} 0)\n(refused 4 0)\n(refused 4 0)\n");
+    let input = format!(
+        "{format}\n{FORMAT}\n{put}\n(get {wide})\n(flush {most})\n(count {most})\n(drop {most})\n"
+    );
+    let refused = "(refused 4 0)\n".repeat(3);
+    let output = format!("(refused 1 0)\n(ok 0)\n(ok 0)\n(found {wide} 0)\n{refused}");
     assert_eq!(run(input.as_bytes()), output.as_bytes());
     compare(input.as_bytes());
 }

@@ -19,18 +19,20 @@ const GEOMETRY: Geometry = Geometry {
 const FORMAT: &str =
     "(format (parts 2) (page 128) (pages 4) (kept 6) (bits 512) (hashes 4) (list 8))\n";
 
-/// So many random puts, dels and flushes.
+/// So many random puts, dels, flushes and drops.
 fn fill(index: &mut Index, keys: &[u64], calls: u64, rng: &mut Rng) {
     for _ in 0..calls {
         let key = rng.pick(keys);
-        let answer = match rng.below(40) {
-            0 => index.flush((key >> 62) as u32).map(drop),
-            1..=4 => index.del(key),
+        let partition = (key >> 62) as u32;
+        let answer = match rng.below(80) {
+            0..=1 => index.flush(partition).map(drop),
+            2 => index.drop_oldest(partition),
+            3..=10 => index.del(key),
             _ => index.put(key, rng.number()).map(drop),
         };
         let usual = matches!(
             answer,
-            Ok(()) | Err(Refused::ListFull | Refused::BufferEmpty)
+            Ok(()) | Err(Refused::ListFull | Refused::BufferEmpty | Refused::NoBatch)
         );
         assert!(usual, "{answer:?}");
     }

@@ -49,6 +49,7 @@ impl Lines {
             950..=959 => self.damaged(),
             960..=969 => "x".repeat(self.0.below(400) as usize),
             970..=984 => format!("(count {})", self.0.below(5)),
+            985..=992 => format!("(drop {})", self.0.below(5)),
             _ => format!("(get {})", self.key()),
         }
     }
@@ -99,6 +100,7 @@ fn random_lines() {
         "(refused 14 ",
         "(refused 15 ",
         "(refused 21 ",
+        "(refused 23 ",
     ] {
         assert!(lines < 10_000 || expected.contains(kind), "no line {kind}");
     }

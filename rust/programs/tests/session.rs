@@ -1,4 +1,4 @@
-//! Whole sessions: document 01's, every refusal, counts, the ends of input and output.
+//! Whole sessions: document 01's, every refusal, counts, drops, the ends of input and output.
 
 use programs::{compare, run, run_to_full_disk};
 use std::fmt::Display;
@@ -65,6 +65,7 @@ fn every_refusal() {
         ("(del 1)".into(), "(refused 11 0)"),
         ("(flush 0)".into(), "(refused 11 0)"),
         ("(count 0)".into(), "(refused 11 0)"),
+        ("(drop 0)".into(), "(refused 11 0)"),
         (format([9, 64, 1, 2, 64, 3, 1]), "(refused 1 0)"),
         (format([0, 32, 1, 2, 64, 3, 1]), "(refused 1 0)"),
         (format([0, 64, 3, 2, 64, 3, 1]), "(refused 1 0)"),
@@ -80,6 +81,8 @@ fn every_refusal() {
         ("(flush 1)".into(), "(refused 4 0)"),
         ("(flush 4294967295)".into(), "(refused 4 0)"),
         ("(count 1)".into(), "(refused 4 0)"),
+        ("(drop 1)".into(), "(refused 4 0)"),
+        ("(drop 0)".into(), "(refused 23 0)"),
         ("(put 5 0)".into(), "(refused 21 0)"),
         ("(put 1 10)".into(), "(ok 0)"),
         ("(put 1 0)".into(), "(refused 21 0)"),
@@ -98,7 +101,7 @@ fn every_refusal() {
 }
 
 /// Puts, a put in place, a flush by a full page, dels in the buffer and in a
-/// batch, and the flush that drops the first batch.
+/// batch, and the flush that pushes the first batch out.
 #[test]
 fn counts() {
     let lines = [
@@ -121,6 +124,42 @@ fn counts() {
         ("(put 6 60)", "(ok 0)"),
         ("(flush 0)", "(ok 1)"),
         ("(count 0)", "(ok 2)"),
+    ];
+    check(lines);
+}
+
+/// A batch of three keys and one of one. The first drop frees the one place of
+/// the list, and the flush behind it pushes nothing out; the next one does.
+#[test]
+fn drops() {
+    let lines = [
+        (FORMAT, "(ok 0)"),
+        ("(put 1 10)", "(ok 0)"),
+        ("(put 2 20)", "(ok 0)"),
+        ("(put 3 30)", "(ok 0)"),
+        ("(put 4 40)", "(ok 1)"),
+        ("(flush 0)", "(ok 1)"),
+        ("(del 2)", "(ok 0)"),
+        ("(del 4)", "(refused 14 0)"),
+        ("(drop 0)", "(ok 0)"),
+        ("(count 0)", "(ok 1)"),
+        ("(get 1)", "(none 0)"),
+        ("(get 2)", "(none 0)"),
+        ("(get 4)", "(found 40 1)"),
+        ("(del 4)", "(ok 0)"),
+        ("(put 4 41)", "(ok 0)"),
+        ("(flush 0)", "(ok 1)"),
+        ("(count 0)", "(ok 2)"),
+        ("(put 0 70)", "(ok 0)"),
+        ("(flush 0)", "(ok 1)"),
+        ("(count 0)", "(ok 2)"),
+        ("(drop 0)", "(ok 0)"),
+        ("(get 4)", "(none 0)"),
+        ("(get 0)", "(found 70 1)"),
+        ("(drop 0)", "(ok 0)"),
+        ("(get 0)", "(none 0)"),
+        ("(drop 0)", "(refused 23 0)"),
+        ("(count 0)", "(ok 0)"),
     ];
     check(lines);
 }

@@ -14,7 +14,8 @@ pub enum Refusal {
     /// 11: the opening numbers are not allowed, or the eighth is not 0.
     Opening,
     /// 12: L is above D, the total is above (K + 1) × Q × E or would end above
-    /// that or below 0, or a buffer page that the call reads counts above E.
+    /// that or below 0, the live number is above the lesser of K and F, or a
+    /// buffer page that the call reads counts above E.
     Overfull,
     /// 13: a flash page read is not the page expected there.
     BatchPage {
@@ -33,6 +34,8 @@ pub enum Refusal {
     NoPosition,
     /// 22: the text area is shorter than the text.
     ShortText,
+    /// 23: no batch is live that could be dropped.
+    NoBatch,
 }
 
 impl Refusal {
@@ -52,6 +55,7 @@ impl Refusal {
             Refusal::NotLive => 17,
             Refusal::NoPosition => 21,
             Refusal::ShortText => 22,
+            Refusal::NoBatch => 23,
         }
     }
 

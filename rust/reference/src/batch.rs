@@ -1,11 +1,12 @@
-//! The flush proper: the buffer of a partition becomes a batch in flash.
+//! Batches: the flush proper, which makes one of a partition's buffer, and the
+//! entries of one that goes.
 
 use crate::answer::Refusal;
 use crate::filter;
 use crate::geometry::Layout;
 use crate::key::Bits;
 use crate::list;
-use crate::live;
+use crate::live::{self, Batch};
 use crate::page::{self, Name};
 use crate::partition::{Head, PartitionMut};
 use crate::record;
@@ -31,20 +32,22 @@ impl Flush {
     ) -> Result<Flush, Refusal> {
         let kept = layout.geometry().kept;
         let flushes = head.flushes.checked_add(1).ok_or(Refusal::NumbersSpent)?;
-        // The batch that goes lies in the slot that the new one takes.
         let slot = live::next_slot(head.flushes, kept);
-        let dropped = if head.flushes >= kept {
-            count_batch(layout, partition, slot, flushes - kept, flash)?
+        let pushed_out = if head.live == kept {
+            // It lies in the slot that the new one takes.
+            let number = flushes - kept;
+            count_entries(layout, partition, Batch { number, slot }, flash)?
         } else {
             0
         };
-        let total = head.total_after(layout, appended, dropped)?;
+        let total = head.total_after(layout, appended, pushed_out)?;
         Ok(Flush {
             partition,
             slot,
             head: Head {
                 flushes,
                 total,
+                live: kept.min(head.live + 1),
                 ..head
             },
         })
@@ -54,7 +57,8 @@ impl Flush {
     pub fn write(self, layout: &Layout, memory: &mut PartitionMut, flash: &mut [u8]) {
         let number = self.head.flushes;
         write_pages(layout, self.partition, self.slot, number, memory, flash);
-        // Without wrapping: as long as F + 1 is below K no batch goes, and no stamp.
+        // Whether the batch with that stamp is pushed out now or was dropped before.
+        // Without wrapping: as long as F + 1 is below K there is no such stamp.
         let listed = match number.checked_sub(layout.geometry().kept) {
             Some(gone) => list::remove_stamped(memory.listed_mut(), gone) as u32,
             None => self.head.listed,
@@ -66,20 +70,19 @@ impl Flush {
     }
 }
 
-/// The entries of the batch with this number, by the heads of its pages alone;
-/// refusal 13 at the first page that isn't the one expected there.
-fn count_batch(
+/// The entries of the batch, by the heads of its pages alone; refusal 13 at the
+/// first page that isn't the one expected there.
+pub fn count_entries(
     layout: &Layout,
     partition: usize,
-    slot: usize,
-    number: u32,
+    batch: Batch,
     flash: &[u8],
 ) -> Result<u32, Refusal> {
-    let batch = &flash[layout.slot_at(partition, slot)..][..layout.batch_bytes()];
+    let pages = &flash[layout.slot_at(partition, batch.slot)..][..layout.batch_bytes()];
     let mut entries = 0;
-    for (page, bytes) in batch.chunks_exact(layout.page_bytes()).enumerate() {
+    for (page, bytes) in pages.chunks_exact(layout.page_bytes()).enumerate() {
         let reads = page as u32 + 1;
-        let used = page::used_of_batch(bytes, Name { partition, page }, number);
+        let used = page::used_of_batch(bytes, Name { partition, page }, batch.number);
         entries += used.ok_or(Refusal::BatchPage { reads })?.len() as u32;
     }
     Ok(entries)

@@ -2,7 +2,7 @@
 //! before it changes a byte.
 
 use crate::answer::{Lookup, Place, Refusal};
-use crate::batch::Flush;
+use crate::batch::{self, Flush};
 use crate::geometry::{Geometry, Layout, OPENING_BYTES};
 use crate::key::{self, Bits};
 use crate::list;
@@ -144,6 +144,27 @@ pub fn flush(memory: &mut [u8], flash: &mut [u8], partition: u32) -> Result<u32,
     Ok(layout.geometry().pages)
 }
 
+/// Drops the partition's oldest live batch: lookups pass it over from here on.
+/// Flash, filters and the buffer stay as they are.
+pub fn drop_oldest(memory: &mut [u8], flash: &[u8], partition: u32) -> Result<(), Refusal> {
+    let layout = Layout::open(memory, flash)?;
+    let number = below(partition, layout.partitions())?;
+    let mut partition = PartitionMut::cut(&layout, memory, number)?;
+    let head = partition.head;
+    let oldest = live::oldest_first(head, layout.geometry().kept).next();
+    let oldest = oldest.ok_or(Refusal::NoBatch)?;
+    let entries = batch::count_entries(&layout, number, oldest, flash)?;
+    let total = head.total_after(&layout, 0, entries)?;
+    let listed = list::remove_stamped(partition.listed_mut(), oldest.number) as u32;
+    partition.set_head(Head {
+        listed,
+        total,
+        live: head.live - 1,
+        ..head
+    });
+    Ok(())
+}
+
 /// The entries of the partition's buffer and live batches together, as its
 /// head has them. No page is read.
 pub fn count(memory: &[u8], flash: &[u8], partition: u32) -> Result<u32, Refusal> {
@@ -171,11 +192,10 @@ pub fn view<'a>(
         page::used(page).ok_or(Refusal::Overfull)?;
         return Ok(page);
     }
-    let kept = layout.geometry().kept;
-    if !live::is_live(number, partition.head.flushes, kept) {
+    if !live::is_live(number, partition.head) {
         return Err(Refusal::NotLive);
     }
-    let slot = live::next_slot(number - 1, kept);
+    let slot = live::next_slot(number - 1, layout.geometry().kept);
     let page = flash_page(&layout, flash, name, slot);
     page::used_of_batch(page, name, number).ok_or(Refusal::BatchPage { reads: 1 })?;
     Ok(page)

@@ -27,6 +27,6 @@ pub mod session;
 mod text;
 
 pub use answer::{Lookup, Place, Refusal};
-pub use calls::{count, del, flush, format, get, put, view, view_part};
+pub use calls::{count, del, drop_oldest, flush, format, get, put, view, view_part};
 pub use geometry::{Geometry, Layout};
 pub use text::text;

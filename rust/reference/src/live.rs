@@ -1,4 +1,9 @@
 //! The live batches of a partition, youngest or oldest first.
+//!
+//! Live are the latest so many as the head's live number says, which is at most
+//! the lesser of K and F in every head that was read.
+
+use crate::partition::Head;
 
 /// A live batch.
 #[derive(Clone, Copy, Debug)]
@@ -15,31 +20,31 @@ pub fn next_slot(flushes: u32, kept: u32) -> usize {
     (flushes % kept) as usize
 }
 
-/// Whether the batch with this number is live after so many flushes.
+/// Whether the batch with this number is live.
 #[inline]
-pub fn is_live(number: u32, flushes: u32, kept: u32) -> bool {
-    (1..=flushes).contains(&number) && flushes - number < kept
+pub fn is_live(number: u32, head: Head) -> bool {
+    (1..=head.flushes).contains(&number) && head.flushes - number < head.live
 }
 
-/// The latest min(K, F) batches by rising number.
+/// The live batches by rising number.
 #[inline]
-pub fn oldest_first(flushes: u32, kept: u32) -> impl Iterator<Item = Batch> {
-    let live = flushes.min(kept);
-    (flushes - live + 1..=flushes).map(move |number| Batch {
-        number,
-        slot: next_slot(number - 1, kept),
+pub fn oldest_first(head: Head, kept: u32) -> impl Iterator<Item = Batch> {
+    // By the flushes before each batch: with none live F + 1 could overflow.
+    (head.flushes - head.live..head.flushes).map(move |before| Batch {
+        number: before + 1,
+        slot: next_slot(before, kept),
     })
 }
 
-/// The latest min(K, F) batches by falling number. Slots are walked backwards
-/// and round: after F passes K the youngest batch may lie in any slot.
+/// The live batches by falling number. Slots are walked backwards and round:
+/// after F passes K the youngest batch may lie in any slot.
 #[inline]
-pub fn youngest_first(flushes: u32, kept: u32) -> impl Iterator<Item = Batch> {
-    let mut slot = next_slot(flushes, kept);
-    (0..flushes.min(kept)).map(move |age| {
+pub fn youngest_first(head: Head, kept: u32) -> impl Iterator<Item = Batch> {
+    let mut slot = next_slot(head.flushes, kept);
+    (0..head.live).map(move |age| {
         slot = if slot == 0 { kept as usize } else { slot } - 1;
         Batch {
-            number: flushes - age,
+            number: head.flushes - age,
             slot,
         }
     })

@@ -8,7 +8,7 @@ use crate::live::{self, Batch};
 use crate::page;
 use crate::record::{self, Record};
 
-/// What the head counts. Its last 4 bytes belong to nobody and stay as they are.
+/// What the head counts.
 #[derive(Clone, Copy, Debug)]
 pub struct Head {
     /// F: flushes done.
@@ -17,6 +17,8 @@ pub struct Head {
     pub listed: u32,
     /// The entries of the buffer and the live batches together.
     pub total: u32,
+    /// The live number: so many batches are live, the latest ones.
+    pub live: u32,
 }
 
 impl Head {
@@ -27,7 +29,8 @@ impl Head {
         Head::read(layout, bytes.ok_or(Refusal::ShortMemory)?)
     }
 
-    /// Reads the head; refusal 12 if L or the total is above what fits.
+    /// Reads the head; refusal 12 if L or the total is above what fits, or the
+    /// live number above the lesser of K and F.
     #[inline]
     fn read(layout: &Layout, bytes: &[u8; HEAD_BYTES]) -> Result<Head, Refusal> {
         let word = u128::from_le_bytes(*bytes);
@@ -35,8 +38,12 @@ impl Head {
             flushes: word as u32,
             listed: (word >> 32) as u32,
             total: (word >> 64) as u32,
+            live: (word >> 96) as u32,
         };
-        if head.listed > layout.geometry().list || head.total > layout.most_entries() {
+        if head.listed > layout.geometry().list
+            || head.total > layout.most_entries()
+            || head.live > layout.geometry().kept.min(head.flushes)
+        {
             return Err(Refusal::Overfull);
         }
         Ok(head)
@@ -57,7 +64,7 @@ impl Head {
 /// A partition that is only read.
 #[derive(Clone, Copy)]
 pub struct Partition<'a> {
-    /// The three counts.
+    /// The four counts.
     pub head: Head,
     /// The first L list places.
     pub listed: &'a [Record],
@@ -95,7 +102,7 @@ impl<'a> Partition<'a> {
     #[inline]
     pub fn passing(self, layout: &Layout, bits: Bits) -> impl Iterator<Item = Batch> + 'a {
         let length = layout.filter_bytes();
-        live::youngest_first(self.head.flushes, layout.geometry().kept).filter(move |batch| {
+        live::youngest_first(self.head, layout.geometry().kept).filter(move |batch| {
             filter::passes(&self.filters[batch.slot * length..][..length], bits)
         })
     }
@@ -103,7 +110,7 @@ impl<'a> Partition<'a> {
 
 /// A partition that is to change.
 pub struct PartitionMut<'a> {
-    /// The three counts.
+    /// The four counts.
     pub head: Head,
     head_bytes: &'a mut [u8; HEAD_BYTES],
     list: &'a mut [Record],
@@ -115,7 +122,8 @@ pub struct PartitionMut<'a> {
 
 impl<'a> PartitionMut<'a> {
     /// Cuts the partition; refusal 12 if its head counts more than fits.
-    #[inline]
+    // As a call it would cost a sixth more instructions in a del.
+    #[inline(always)]
     pub fn cut(layout: &Layout, memory: &'a mut [u8], partition: usize) -> Result<Self, Refusal> {
         let bytes = &mut memory[layout.partition_at(partition)..][..layout.partition_bytes()];
         let (head_bytes, bytes) = bytes.split_first_chunk_mut().ok_or(Refusal::ShortMemory)?;
@@ -141,12 +149,13 @@ impl<'a> PartitionMut<'a> {
         }
     }
 
-    /// Puts the counts back, and nothing after them.
+    /// Puts the whole head back.
     #[inline]
     pub fn set_head(&mut self, head: Head) {
-        let word = u64::from(head.listed) << 32 | u64::from(head.flushes);
-        self.head_bytes[..8].copy_from_slice(&word.to_le_bytes());
-        self.head_bytes[8..12].copy_from_slice(&head.total.to_le_bytes());
+        let first = u64::from(head.listed) << 32 | u64::from(head.flushes);
+        let last = u64::from(head.live) << 32 | u64::from(head.total);
+        self.head_bytes[..8].copy_from_slice(&first.to_le_bytes());
+        self.head_bytes[8..].copy_from_slice(&last.to_le_bytes());
         self.head = head;
     }
 

@@ -3,7 +3,7 @@
 use std::fmt;
 use std::io::{self, BufRead, Write};
 
-use crate::{count, del, flush, format, get, put, Geometry, Lookup, Refusal};
+use crate::{count, del, drop_oldest, flush, format, get, put, Geometry, Lookup, Refusal};
 
 /// The length of each of the session's two areas.
 pub const AREA_BYTES: usize = 32_768;
@@ -23,6 +23,8 @@ pub enum Form {
     Flush(u32),
     /// `(count partition)`
     Count(u32),
+    /// `(drop partition)`
+    Drop(u32),
 }
 
 impl Form {
@@ -36,6 +38,7 @@ impl Form {
             b"(del" => Form::Del(text.figure()?),
             b"(flush" => Form::Flush(text.short_figure()?),
             b"(count" => Form::Count(text.short_figure()?),
+            b"(drop" => Form::Drop(text.short_figure()?),
             _ => return None,
         };
         text.fixed(b")")?;
@@ -102,8 +105,8 @@ impl<'a> Text<'a> {
 /// What a line is answered with.
 #[derive(Clone, Copy, Debug, PartialEq, Eq)]
 pub enum Answer {
-    /// An accepted format, put, del or flush, with the pages written, or count,
-    /// with the total.
+    /// An accepted format, put, del, flush or drop, with the pages written, or
+    /// count, with the total.
     Done(u32),
     /// An accepted get.
     Lookup(Lookup),
@@ -184,6 +187,10 @@ impl Session {
             }
             Form::Flush(partition) => Answer::Done(flush(memory, flash, partition)?),
             Form::Count(partition) => Answer::Done(count(memory, flash, partition)?),
+            Form::Drop(partition) => {
+                drop_oldest(memory, flash, partition)?;
+                Answer::Done(0)
+            }
         })
     }
 }

@@ -67,8 +67,8 @@ impl<'a> Contents<'a> {
     /// Every page with its batch, which for a buffer page is none: the oldest
     /// batch first and the buffer last.
     fn pages(&self) -> impl Iterator<Item = (Option<Batch>, usize)> {
-        let (flushes, pages) = (self.partition.head.flushes, self.layout.pages());
-        let batches = live::oldest_first(flushes, self.layout.geometry().kept);
+        let pages = self.layout.pages();
+        let batches = live::oldest_first(self.partition.head, self.layout.geometry().kept);
         let places = batches.map(Some).chain([None]);
         places.flat_map(move |batch| (0..pages).map(move |page| (batch, page)))
     }

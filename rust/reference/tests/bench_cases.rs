@@ -118,5 +118,6 @@ fn case_10_geometries_outside_the_table_and_an_untouched_area() {
     assert_eq!(untouched.refuses(|t| t.flush(0)), (11, 0));
     assert_eq!(untouched.refuses(|t| t.count(0)), (11, 0));
     assert_eq!(untouched.refuses(|t| t.text(0)), (11, 0));
+    assert_eq!(untouched.refuses(|t| t.drop_oldest(0)), (11, 0));
     assert_eq!(untouched.refuses(|t| t.view(0, 0, 0).map(|_| ())), (11, 0));
 }

@@ -4,7 +4,7 @@ mod common;
 
 use common::{flash_need, found, memory_need, none, partition_bytes};
 use common::{record, word, Rng, Table, G, PAGE_1, WIDE};
-use reference::{del, flush, format, get, put, view, view_part};
+use reference::{del, drop_oldest, flush, format, get, put, view, view_part};
 
 #[test]
 fn format_writes_the_whole_need_and_nothing_else() {
@@ -48,9 +48,10 @@ fn surplus_bytes_stay() {
     format(&mut memory, &flash, WIDE).unwrap();
     for step in 1..=2000 {
         let key = rng.next() & 0x8000_0000_0000_000f;
-        match rng.below(4) {
-            0 => drop(del(&mut memory, &flash, key)),
-            1 => drop(flush(&mut memory, &mut flash, rng.below(2) as u32)),
+        match rng.below(16) {
+            0..=3 => drop(del(&mut memory, &flash, key)),
+            4..=7 => drop(flush(&mut memory, &mut flash, rng.below(2) as u32)),
+            8 => drop(drop_oldest(&mut memory, &flash, rng.below(2) as u32)),
             _ => drop(put(&mut memory, &mut flash, key, step)),
         }
         get(&memory, &flash, key).unwrap();
@@ -150,21 +151,25 @@ fn the_filter_of_a_flush_is_made_new() {
 }
 
 #[test]
-fn the_last_four_head_bytes_are_carried() {
+fn the_last_four_head_bytes_are_the_live_number() {
     let mut table = Table::new(G);
-    let mark = [5, 6, 7, 8];
-    table.head(0)[12..].copy_from_slice(&mark);
+    // Every third put from the fourth on flushes. K is 2.
     for key in 0..10 {
         table.put(key, 7).unwrap();
-        assert_eq!(table.head(0)[12..], mark);
+        let live = [0, 1, 2, 2][key as usize / 3];
+        assert_eq!(table.head(0)[12..], [live, 0, 0, 0]);
     }
+    // Neither a del nor a put without a flush changes it.
+    table.set_live(0, 1);
     table.del(8).unwrap();
-    assert_eq!(table.listed(0), 1);
-    assert_eq!(table.head(0)[12..], mark);
+    assert_eq!((table.listed(0), table.live(0)), (1, 1));
     table.put(8, 1).unwrap();
-    assert_eq!(table.listed(0), 0);
-    table.flush(0).unwrap();
-    assert_eq!(table.head(0)[12..], mark);
+    assert_eq!((table.listed(0), table.live(0)), (0, 1));
+    for live in [2, 2] {
+        table.put(8, 2).unwrap();
+        table.flush(0).unwrap();
+        assert_eq!(table.head(0)[12..], [live, 0, 0, 0]);
+    }
     let flash = table.flash.clone();
     format(&mut table.memory, &flash, G).unwrap();
     assert_eq!(table.head(0)[8..], [0; 8]);

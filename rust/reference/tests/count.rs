@@ -17,9 +17,9 @@ const MOST: u32 = 24;
 /// Keys of WIDE's partition 0 and page 1.
 const KEYS: [u64; 4] = [PAGE_1, PAGE_1 + 1, PAGE_1 + 2, PAGE_1 + 3];
 
-/// A table whose flush of partition 0, or put of the last key, drops batch 1.
+/// A table whose flush of partition 0, or put of the last key, pushes batch 1 out.
 /// Both of its pages count three entries.
-fn dropping(total: u32) -> Table {
+fn pushing_out(total: u32) -> Table {
     let mut table = Table::new(WIDE);
     table.set_batches(0, 3);
     for q in 0..2 {
@@ -62,7 +62,7 @@ fn each_call_moves_the_total_by_what_it_adds_and_takes() {
 }
 
 #[test]
-fn a_put_that_flushes_drops_a_batch_and_adds_its_own() {
+fn a_put_that_flushes_takes_a_batch_off_and_adds_its_own() {
     let mut table = Table::new(G);
     for key in 0..9 {
         table.put(key, 7).unwrap();
@@ -79,12 +79,12 @@ fn a_put_that_flushes_drops_a_batch_and_adds_its_own() {
 #[test]
 fn the_total_is_four_bytes_of_the_head() {
     let mut table = Table::new(Geometry::new([0, 4096, 4, 2, 64, 3, 2]));
-    table.head(0)[12..].fill(0xee);
+    table.set_flushes(0, 1);
     let before = table.head(0).to_vec();
     for key in 0..300u64 {
         table.put(key << 30, 7).unwrap();
     }
-    assert_eq!(table.flushes(0), 0);
+    assert_eq!(table.flushes(0), 1);
     assert_eq!(table.head(0)[..8], before[..8]);
     assert_eq!(table.head(0)[8..12], 300u32.to_le_bytes());
     assert_eq!(table.head(0)[12..], before[12..]);
@@ -120,7 +120,7 @@ fn count_tells_the_head_and_reads_no_page() {
 #[test]
 fn refusal_12_for_the_total_in_every_call() {
     type Made = fn(&mut Table) -> Result<(), Refusal>;
-    let calls: [Made; 9] = [
+    let calls: [Made; 10] = [
         |t| t.get(1).map(drop),
         |t| t.get(KEYS[0]).map(drop),
         |t| t.put(KEYS[0], 2).map(drop),
@@ -130,6 +130,7 @@ fn refusal_12_for_the_total_in_every_call() {
         |t| t.view(0, 0, 1).map(drop),
         |t| t.count(0).map(drop),
         |t| t.text(0).map(drop),
+        |t| t.drop_oldest(0),
     ];
     let mut table = Table::new(WIDE);
     table.put(KEYS[1], 1).unwrap();
@@ -180,7 +181,7 @@ fn refusal_12_where_a_put_would_end_above() {
     assert_eq!(table.put(KEYS[0], 2), Ok(0));
     assert_eq!(table.count(0), Ok(MOST));
     // Of a put that flushes the batch that goes is taken off first.
-    let mut table = dropping(MOST);
+    let mut table = pushing_out(MOST);
     assert_eq!(table.clone().put(KEYS[3], 1), Ok(2));
     table.batch(0, 0, 0)[0] = 0;
     table.batch(0, 0, 1)[0] = 1;
@@ -189,7 +190,7 @@ fn refusal_12_where_a_put_would_end_above() {
     table.batch(0, 0, 1)[0] = 0;
     assert_eq!(table.refuses(|t| t.put(KEYS[3], 1)), (12, 0));
     // None goes as long as F is below K.
-    let mut table = dropping(MOST);
+    let mut table = pushing_out(MOST);
     table.set_flushes(0, 2);
     assert_eq!(table.refuses(|t| t.put(KEYS[3], 1)), (12, 0));
     table.set_total(0, MOST - 1);
@@ -212,12 +213,12 @@ fn refusal_12_where_a_del_would_end_below_0() {
 #[test]
 fn refusal_12_where_a_flush_would_end_below_0() {
     for total in 0..6 {
-        assert_eq!(dropping(total).refuses(|t| t.flush(0)), (12, 0));
+        assert_eq!(pushing_out(total).refuses(|t| t.flush(0)), (12, 0));
     }
-    let mut table = dropping(6);
+    let mut table = pushing_out(6);
     assert_eq!((table.flush(0), table.count(0)), (Ok(2), Ok(0)));
     // As long as F is below K nothing is taken off.
-    let mut table = dropping(0);
+    let mut table = pushing_out(0);
     table.set_flushes(0, 2);
     assert_eq!((table.flush(0), table.count(0)), (Ok(2), Ok(0)));
 }
@@ -225,15 +226,15 @@ fn refusal_12_where_a_flush_would_end_below_0() {
 #[test]
 fn refusal_12_where_a_put_would_end_below_0() {
     for total in 0..5 {
-        assert_eq!(dropping(total).refuses(|t| t.put(KEYS[3], 1)), (12, 0));
+        assert_eq!(pushing_out(total).refuses(|t| t.put(KEYS[3], 1)), (12, 0));
     }
     // 5 − 6 + 1: only the total at the end is judged.
-    let mut table = dropping(5);
+    let mut table = pushing_out(5);
     assert_eq!((table.put(KEYS[3], 1), table.count(0)), (Ok(2), Ok(0)));
 }
 
 /// FOUR with two live batches of full pages, and a put of the last key, like a
-/// flush, about to drop the first.
+/// flush, about to push the first out.
 fn full() -> (Table, u64) {
     let mut table = Table::new(FOUR);
     table.set_batches(0, 2);
@@ -268,7 +269,7 @@ fn refusal_13_counts_the_heads_read() {
 }
 
 #[test]
-fn refusal_13_looks_at_the_dropped_batch_and_its_first_12_bytes_alone() {
+fn refusal_13_looks_at_the_pushed_out_batch_and_its_first_12_bytes_alone() {
     let (mut table, key) = full();
     for q in 0..4 {
         table.batch(0, 0, q)[12..].fill(0xee);
@@ -278,7 +279,7 @@ fn refusal_13_looks_at_the_dropped_batch_and_its_first_12_bytes_alone() {
     assert_eq!((flushed.flush(0), flushed.count(0)), (Ok(4), Ok(15)));
     let mut put = table.clone();
     assert_eq!((put.put(key, 1), put.count(0)), (Ok(4), Ok(16)));
-    // The next flush drops the other batch.
+    // The next flush pushes the other batch out.
     assert_eq!(put.refuses(|t| t.flush(0)), (13, 1));
 }
 
@@ -297,8 +298,8 @@ fn no_head_is_read_before_a_batch_goes() {
 }
 
 #[test]
-fn the_dropped_batch_goes_by_number() {
-    // After 7 flushes flush 8 drops batch 5, which lies in slot 1.
+fn the_pushed_out_batch_goes_by_number() {
+    // After 7 flushes flush 8 pushes batch 5 out, which lies in slot 1.
     let mut table = Table::new(WIDE);
     table.set_batches(0, 7);
     table.fill_buffer(0, 0, &[(1, 1)]);

@@ -5,7 +5,7 @@ mod common;
 
 use common::call::{call_index, Answer, Call};
 use common::oracle::call_oracle;
-use common::plain::most_entries;
+use common::plain::{live, most_entries, slot};
 use common::tally::{Outcome, Tally};
 use common::{flash_need, memory_need, set_word, Rng, Table};
 use reference::Geometry;
@@ -16,13 +16,14 @@ fn random_call(rng: &mut Rng, g: Geometry, keys: &[u64]) -> Call {
         1 => rng.next() as u32,
         _ => rng.below(1 << g.parts) as u32,
     };
-    match rng.below(18) {
+    match rng.below(19) {
         0..=5 => Call::Put(rng.pick(keys), rng.value()),
         6..=9 => Call::Get(rng.pick(keys)),
         10..=11 => Call::Del(rng.pick(keys)),
         12..=13 => Call::Flush(partition(rng)),
         14 => Call::Count(partition(rng)),
-        15 => Call::Text(partition(rng), rng.pick(&[0, 30, 300, 3000, 30_000])),
+        15 => Call::Drop(partition(rng)),
+        16 => Call::Text(partition(rng), rng.pick(&[0, 30, 300, 3000, 30_000])),
         _ => {
             let beyond = usize::from(rng.one_in(8));
             let page = rng.below(g.pages as usize + beyond);
@@ -58,21 +59,24 @@ fn near(rng: &mut Rng, bound: u32) -> u32 {
     }
 }
 
-/// A partition after so many flushes, with live batches that are in order
-/// but hold any of the keys, or the same one twice.
+/// A partition after so many flushes and drops, with live batches that are in
+/// order but hold any of the keys, or the same one twice.
 fn invent_batches(rng: &mut Rng, table: &mut Table, t: usize, keys: &[u64]) {
     let g = table.g;
     let flushes = near(rng, 2 * g.kept);
     table.set_flushes(t, flushes);
-    for age in 0..flushes.min(g.kept) {
-        let number = flushes - age;
-        let slot = ((number - 1) % g.kept) as usize;
+    if rng.one_in(2) {
+        let dropped = rng.below(flushes.min(g.kept) as usize + 1) as u32;
+        table.set_live(t, flushes.min(g.kept) - dropped);
+    }
+    let number = table.live(t);
+    for (number, slot) in live(g, flushes.into(), number.into()) {
         for q in 0..g.pages as usize {
             let count = rng.below(g.page as usize / 16);
             let page = table.batch(t, slot, q);
             page.fill(0);
             (page[0], page[2], page[4]) = (count as u8, q as u8, t as u8);
-            set_word(page, 8, number);
+            set_word(page, 8, number as u32);
             for entry in page[16..].chunks_mut(16).take(count) {
                 entry.copy_from_slice(&common::record(rng.pick(keys), rng.next()));
             }
@@ -80,40 +84,52 @@ fn invent_batches(rng: &mut Rng, table: &mut Table, t: usize, keys: &[u64]) {
         let fill = rng.pick(&[0xff, 0xff, 0xfe, 0x77]);
         table.filter(t, slot).fill(fill);
     }
-    // Else a flush that drops one of them most often ends below 0.
+    // Else a flush or a drop that one of them goes with most often ends below 0.
     if rng.one_in(2) {
         table.recount(t);
     }
 }
 
-/// F, L or the total, at or near its bounds.
+/// F, L, the total or the live number, at or near its bounds.
 fn damage_head(rng: &mut Rng, table: &mut Table, t: usize) {
     let g = table.g;
     let most = most_entries(g);
-    let (at, number) = match rng.below(6) {
+    let flushes = table.flushes(t);
+    let (at, number) = match rng.below(8) {
         0 => (0, near(rng, g.kept + 1)),
         1 => (4, near(rng, g.list)),
         2 => (8, rng.below(2) as u32),
+        3 => (12, near(rng, g.kept)),
+        4 => (12, near(rng, g.kept.min(flushes))),
         _ => (8, near(rng, most)),
     };
     set_word(table.head(t), at, number);
 }
 
-/// One byte of the head of a page that the next flush may drop.
-fn damage_dropped(rng: &mut Rng, table: &mut Table, t: usize, q: usize) {
-    let slot = table.flushes(t) % table.g.kept;
+/// The oldest live batch, or the one that the next flush writes if none is live.
+fn oldest(table: &mut Table, t: usize) -> i128 {
+    i128::from(table.flushes(t)) - i128::from(table.live(t).min(table.g.kept)) + 1
+}
+
+/// One byte of the head of a page that goes with the next flush or drop, or
+/// that the next flush writes over.
+fn damage_oldest(rng: &mut Rng, table: &mut Table, t: usize, q: usize) {
+    let g = table.g;
+    let next = i128::from(table.flushes(t)) + 1;
+    let batch = rng.pick(&[oldest(table, t), next]).max(1);
     let byte = rng.below(12);
-    table.batch(t, slot as usize, q)[byte] = rng.next() as u8 & 7;
+    table.batch(t, slot(g, batch), q)[byte] = rng.next() as u8 & 7;
 }
 
 fn invent_list(rng: &mut Rng, table: &mut Table, t: usize, keys: &[u64]) {
     let g = table.g;
     let flushes = table.flushes(t);
+    let oldest = oldest(table, t) as u32;
     for i in 0..g.list as usize {
         let stamp = flushes
             .wrapping_sub(g.kept)
             .wrapping_add(rng.below(4) as u32);
-        let stamp = rng.pick(&[stamp, stamp, 0, 1]);
+        let stamp = rng.pick(&[stamp, stamp, oldest, 0, 1]);
         let zero = if rng.one_in(3) { rng.next() << 32 } else { 0 };
         let place = common::record(rng.pick(keys), zero | u64::from(stamp));
         table.list_place(t, i).copy_from_slice(&place);
@@ -159,7 +175,7 @@ fn damage(rng: &mut Rng, table: &mut Table, keys: &[u64]) {
             let at = rng.below(table.flash.len());
             table.flash[at] = rng.next() as u8;
         }
-        12 => damage_dropped(rng, table, t, q),
+        12 => damage_oldest(rng, table, t, q),
         _ => invent_batches(rng, table, t, keys),
     }
 }

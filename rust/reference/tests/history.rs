@@ -9,7 +9,7 @@ use std::ops::Range;
 
 use common::call::{call_index, Answer, Call};
 use common::plain::sum_of_counts;
-use common::{flash_need, memory_need, Rng};
+use common::{flash_need, memory_need, partition_bytes, word, Rng};
 use reference::Geometry;
 
 /// What document 01 holds of a list of calls, fed from the arguments, the
@@ -53,9 +53,25 @@ impl History {
         *live = (*live + 1).min(kept);
     }
 
+    fn drop_oldest(&mut self, partition: u64) {
+        let (parts, live) = (self.g.parts, self.live(partition));
+        assert!(live > 0, "a drop of {partition} without a live batch");
+        self.keys.retain(|&key, &mut (_, age)| {
+            let own = parts == 0 || key >> (64 - parts) == partition;
+            !own || age != live
+        });
+        self.live.insert(partition, live - 1);
+    }
+
+    fn live(&self, partition: u64) -> u32 {
+        self.live.get(&partition).copied().unwrap_or(0)
+    }
+
     fn call(&mut self, call: Call, answer: Answer) {
-        let Answer::Done(pages) = answer else {
-            return;
+        let pages = match answer {
+            Answer::Done(pages) => pages,
+            Answer::Dropped(_) => 0,
+            _ => return,
         };
         match call {
             Call::Format(g) => *self = History::new(g),
@@ -69,6 +85,7 @@ impl History {
             }
             Call::Del(key) => drop(self.keys.remove(&key)),
             Call::Flush(partition) => self.flush(partition.into()),
+            Call::Drop(partition) => self.drop_oldest(partition.into()),
             Call::Get(_) | Call::View(..) | Call::Count(_) | Call::Text(..) => unreachable!(),
         }
     }
@@ -85,8 +102,21 @@ impl History {
             "get of {key}"
         );
         assert_ne!(value, Some(0), "get of {key}");
-        let live = self.live.get(&self.partition(key)).copied();
-        assert!(reads <= live.unwrap_or(0), "get of {key}: {reads} reads");
+        let live = self.live(self.partition(key));
+        assert!(reads <= live, "get of {key}: {reads} reads");
+    }
+
+    /// A drop is refused with 23 only where no batch is live.
+    fn check_drop(&self, partition: u32, answer: Answer) {
+        let live = self.live(partition.into());
+        assert!(answer != Answer::Refused(23, 0) || live == 0);
+    }
+
+    /// A partition's head has its live number.
+    fn check_live(&self, memory: &[u8], partition: u32) {
+        let head = 32 + partition as usize * partition_bytes(self.g);
+        let live = self.live(partition.into());
+        assert_eq!(word(memory, head + 12), live, "partition {partition}");
     }
 
     fn check_totals(&self) {
@@ -100,27 +130,38 @@ struct Weights {
     put: usize,
     del: usize,
     flush: usize,
+    drop: usize,
 }
 
 fn random_call(rng: &mut Rng, g: Geometry, keys: &[u64], weights: &Weights) -> Call {
-    let Weights { put, del, flush } = *weights;
-    let kind = rng.below(put + del + flush + 4);
+    let Weights {
+        put,
+        del,
+        flush,
+        drop,
+    } = *weights;
+    let kind = rng.below(put + del + flush + drop + 4);
+    let partition = |rng: &mut Rng| rng.below((1 << g.parts) + 1) as u32;
     if kind < put {
-        Call::Put(rng.pick(keys), rng.value())
+        return Call::Put(rng.pick(keys), rng.value());
     } else if kind < put + del {
-        Call::Del(rng.pick(keys))
+        return Call::Del(rng.pick(keys));
     } else if kind < put + del + flush {
-        Call::Flush(rng.below((1 << g.parts) + 1) as u32)
-    } else if kind == put + del + flush {
-        let number = rng.below(2 * g.kept as usize);
-        Call::View(rng.below(1 << g.parts) as u32, 0, number as u32)
-    } else if kind == put + del + flush + 1 {
-        Call::Count(rng.below((1 << g.parts) + 1) as u32)
-    } else if kind == put + del + flush + 2 {
-        let room = rng.pick(&[0, 100, 1000, 10_000, 100_000]);
-        Call::Text(rng.below((1 << g.parts) + 1) as u32, room)
-    } else {
-        Call::Get(rng.pick(keys))
+        return Call::Flush(partition(rng));
+    } else if kind < put + del + flush + drop {
+        return Call::Drop(partition(rng));
+    }
+    match kind - (put + del + flush + drop) {
+        0 => {
+            let number = rng.below(2 * g.kept as usize);
+            Call::View(rng.below(1 << g.parts) as u32, 0, number as u32)
+        }
+        1 => Call::Count(partition(rng)),
+        2 => {
+            let room = rng.pick(&[0, 100, 1000, 10_000, 100_000]);
+            Call::Text(partition(rng), room)
+        }
+        _ => Call::Get(rng.pick(keys)),
     }
 }
 
@@ -133,6 +174,7 @@ fn check_refusal(call: Call, answer: Answer) {
             Call::View(..) => &[17],
             Call::Count(_) => &[4],
             Call::Text(..) => &[4, 22],
+            Call::Drop(_) => &[4, 23],
             Call::Format(_) => &[1],
             Call::Put(_, 0) => &[21],
             Call::Put(..) | Call::Get(_) => &[],
@@ -162,6 +204,7 @@ fn run(rng: &mut Rng, g: Geometry, steps: usize, memory: &mut [u8], flash: &mut 
         put: 1 + rng.below(30),
         del: rng.below(12),
         flush: rng.below(3),
+        drop: rng.below(3),
     };
     let mut history = History::new(g);
     for step in 0..steps {
@@ -174,8 +217,11 @@ fn run(rng: &mut Rng, g: Geometry, steps: usize, memory: &mut [u8], flash: &mut 
         check_refusal(call, answer);
         history.call(call, answer);
         history.check_totals();
-        let own = call.partition(g).filter(|&t| t < 1 << g.parts);
-        check_counts(g, memory, flash, own.map_or(0..0, |t| t..t + 1));
+        if let Some(t) = call.partition(g).filter(|&t| t < 1 << g.parts) {
+            history.check_drop(t, answer);
+            history.check_live(memory, t);
+            check_counts(g, memory, flash, t..t + 1);
+        }
         for _ in 0..2 {
             let key = rng.pick(&keys);
             history.check_get(key, call_index(Call::Get(key), memory, flash));

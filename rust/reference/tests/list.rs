@@ -171,7 +171,7 @@ fn stamps_are_compared_as_plain_integers() {
 }
 
 #[test]
-fn a_put_that_flushes_drops_stamped_entries_before_its_own() {
+fn a_put_that_flushes_takes_off_stamped_entries_before_its_own() {
     let mut table = Table::new(LISTS);
     table.set_batches(0, 3);
     // The first entry of key 8 goes with the flush, the second with the put.

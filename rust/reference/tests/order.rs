@@ -15,7 +15,8 @@ const FLUSH: Call = |t| t.flush(0).map(drop);
 const VIEW: Call = |t| t.view(0, 0, 9).map(drop);
 const COUNT: Call = |t| t.count(0).map(drop);
 const TEXT: Call = |t| t.text(0).map(drop);
-const ALL: [Call; 8] = [PUT, PUT_0, GET, DEL, FLUSH, VIEW, COUNT, TEXT];
+const DROP: Call = |t| t.drop_oldest(0);
+const ALL: [Call; 9] = [PUT, PUT_0, GET, DEL, FLUSH, VIEW, COUNT, TEXT, DROP];
 
 #[test]
 fn format_checks_1_2_3() {
@@ -90,6 +91,7 @@ fn flash_comes_before_the_arguments_and_the_state() {
     assert_eq!(table.refuses(|t| t.flush(1)), (3, 0));
     assert_eq!(table.refuses(|t| t.count(1)), (3, 0));
     assert_eq!(table.refuses(|t| t.text(1)), (3, 0));
+    assert_eq!(table.refuses(|t| t.drop_oldest(1)), (3, 0));
     assert_eq!(table.refuses(|t| t.view(1, 0, 0).map(drop)), (3, 0));
     assert_eq!(table.refuses(|t| t.view(0, 1, 0).map(drop)), (3, 0));
 }
@@ -104,29 +106,34 @@ fn the_arguments_come_before_the_counts() {
     assert_eq!(table.refuses(|t| t.flush(2)), (4, 0));
     assert_eq!(table.refuses(|t| t.count(2)), (4, 0));
     assert_eq!(table.refuses(|t| t.text(2)), (4, 0));
+    assert_eq!(table.refuses(|t| t.drop_oldest(2)), (4, 0));
     assert_eq!(table.refuses(|t| t.view(2, 0, 0).map(drop)), (4, 0));
     assert_eq!(table.refuses(|t| t.view(0, 2, 0).map(drop)), (4, 0));
     assert_eq!(table.refuses(|t| t.flush(1)), (12, 0));
     assert_eq!(table.refuses(|t| t.count(1)), (12, 0));
     assert_eq!(table.refuses(|t| t.text(1)), (12, 0));
+    assert_eq!(table.refuses(|t| t.drop_oldest(1)), (12, 0));
     assert_eq!(table.refuses(|t| t.view(0, 1, 0).map(drop)), (12, 0));
 }
 
 #[test]
-fn the_total_comes_where_l_does() {
-    let mut table = Table::new(WIDE);
-    for t in 0..2 {
-        table.set_total(t, u32::MAX);
-    }
-    assert_eq!(table.refuses(PUT_0), (21, 0));
-    assert_eq!(table.refuses(|t| t.view(0, 2, 0).map(drop)), (4, 0));
-    // No page is there for the view, and nothing for the flush.
-    for call in [PUT, GET, DEL, FLUSH, VIEW, COUNT, TEXT] {
-        assert_eq!(table.refuses(call), (12, 0));
-    }
-    table.flash.pop();
-    for call in ALL {
-        assert_eq!(table.refuses(call), (3, 0));
+fn the_total_and_the_live_number_come_where_l_does() {
+    // Of the head's four bytes from 8 and from 12 on.
+    for at in [8, 12] {
+        let mut table = Table::new(WIDE);
+        for t in 0..2 {
+            set_word(table.head(t), at, u32::MAX);
+        }
+        assert_eq!(table.refuses(PUT_0), (21, 0));
+        assert_eq!(table.refuses(|t| t.view(0, 2, 0).map(drop)), (4, 0));
+        // No page is there for the view, and nothing for the flush.
+        for call in [PUT, GET, DEL, FLUSH, VIEW, COUNT, TEXT, DROP] {
+            assert_eq!(table.refuses(call), (12, 0));
+        }
+        table.flash.pop();
+        for call in ALL {
+            assert_eq!(table.refuses(call), (3, 0));
+        }
     }
 }
 
@@ -277,4 +284,30 @@ fn get_checks_12_before_13() {
     table.buffer(0, 0)[0] = 0;
     table.set_listed(0, 2);
     assert_eq!(table.refuses(GET), (12, 0));
+}
+
+#[test]
+fn drop_checks_12_23_13_and_the_total_at_its_end() {
+    let mut table = Table::new(WIDE);
+    table.set_flushes(0, 3);
+    table.set_live(0, 0);
+    assert_eq!(table.refuses(DROP), (23, 0));
+    table.set_listed(0, 4);
+    assert_eq!(table.refuses(DROP), (12, 0));
+    table.set_listed(0, 0);
+    table.set_total(0, 25);
+    assert_eq!(table.refuses(DROP), (12, 0));
+    table.set_total(0, 0);
+    // No page of batch 2, the older one, is in order.
+    table.set_live(0, 2);
+    assert_eq!(table.refuses(DROP), (13, 1));
+    table.set_batches(0, 3);
+    table.set_live(0, 2);
+    table.batch(0, 1, 0)[0] = 3;
+    table.batch(0, 1, 1)[6] = 1;
+    assert_eq!(table.refuses(DROP), (13, 2));
+    table.batch(0, 1, 1)[6] = 0;
+    assert_eq!(table.refuses(DROP), (12, 0));
+    table.set_total(0, 3);
+    assert_eq!(DROP(&mut table), Ok(()));
 }

@@ -8,7 +8,7 @@ use reference::{format, Geometry, Refusal};
 type Call = fn(&mut Table) -> Result<(), Refusal>;
 
 /// Every call but format, with arguments that are in range.
-const CALLS: [Call; 8] = [
+const CALLS: [Call; 9] = [
     |t| t.put(PAGE_1, 1).map(drop),
     |t| t.get(PAGE_1).map(drop),
     |t| t.del(PAGE_1),
@@ -17,6 +17,7 @@ const CALLS: [Call; 8] = [
     |t| t.view(0, 0, 1).map(drop),
     |t| t.count(0).map(drop),
     |t| t.text(0).map(drop),
+    |t| t.drop_oldest(0),
 ];
 
 /// Every call but format is refused with the number and 0 reads.
@@ -124,6 +125,7 @@ fn refusal_4_at_s_and_q() {
         assert_eq!(table.refuses(|t| t.flush(partition)), (4, 0));
         assert_eq!(table.refuses(|t| t.count(partition)), (4, 0));
         assert_eq!(table.refuses(|t| t.text(partition)), (4, 0));
+        assert_eq!(table.refuses(|t| t.drop_oldest(partition)), (4, 0));
         assert_eq!(table.refuses(|t| t.view(partition, 0, 0).map(drop)), (4, 0));
     }
     for page in [2, 3, u32::MAX] {
@@ -177,6 +179,7 @@ fn refusal_12_for_the_list() {
     assert_eq!(table.refuses(|t| t.flush(1)), (12, 0));
     assert_eq!(table.refuses(|t| t.count(1)), (12, 0));
     assert_eq!(table.refuses(|t| t.text(1)), (12, 0));
+    assert_eq!(table.refuses(|t| t.drop_oldest(1)), (12, 0));
 }
 
 #[test]
@@ -197,9 +200,11 @@ fn refusal_12_for_a_buffer_page() {
         assert_eq!(table.get(2), found(6, 0, 0));
         assert_eq!(table.clone().del(2), Ok(()));
         assert!(table.view(0, 0, 0).is_ok());
-        // A flash page is shown, and the total told, whatever the buffer page counts.
+        // A flash page is shown, the total told and a batch dropped, whatever the
+        // buffer page counts.
         assert!(table.view(0, 1, 1).is_ok());
         assert_eq!(table.count(0), Ok(2));
+        assert_eq!(table.clone().drop_oldest(0), Ok(()));
         // A put that flushes reads all pages.
         table.fill_buffer(0, 0, &[(2, 1), (4, 1), (6, 1)]);
         assert_eq!(table.clone().put(4, 7), Ok(0));

@@ -79,13 +79,14 @@ fn lines_and_the_end_of_input() {
 
 #[test]
 fn before_a_format_every_form_is_refused() {
-    let input = b"(put 1 2)\n(get 1)\n(del 1)\n(flush 0)\n(flush 9)\n(count 0)\nno form\n";
-    let refused = "(refused 11 0)\n".repeat(6);
+    let input =
+        b"(put 1 2)\n(get 1)\n(del 1)\n(flush 0)\n(flush 9)\n(count 0)\n(drop 0)\nno form\n";
+    let refused = "(refused 11 0)\n".repeat(7);
     assert_eq!(output(input), refused + "(bad)\n");
 }
 
 /// Texts that are no form.
-const BAD: [&[u8]; 48] = [
+const BAD: [&[u8]; 54] = [
     b"",
     b" ",
     b"(",
@@ -133,6 +134,12 @@ const BAD: [&[u8]; 48] = [
     b"(count 0 0)",
     b"(counts 0)",
     b"(Count 0)",
+    b"(drop)",
+    b"(drop )",
+    b"(drop 0 0)",
+    b"(drop 00)",
+    b"(drops 0)",
+    b"(Drop 0)",
     b"(format)",
 ];
 
@@ -165,6 +172,7 @@ fn figures_have_their_bounds() {
         Form::read(b"(count 4294967295)"),
         Some(Form::Count(u32::MAX))
     );
+    assert_eq!(Form::read(b"(drop 4294967295)"), Some(Form::Drop(u32::MAX)));
     for text in [
         "(get 18446744073709551616)",
         "(del 18446744073709551616)",
@@ -174,6 +182,7 @@ fn figures_have_their_bounds() {
         "(get 184467440737095516150)",
         "(flush 4294967296)",
         "(count 4294967296)",
+        "(drop 4294967296)",
         "(flush 18446744073709551615)",
         "(flush 18446744073709551616)",
     ] {
@@ -245,10 +254,20 @@ fn flush_of_a_partition_that_is_not_there() {
     assert_eq!(output(input.as_bytes()), answers);
 }
 
+/// The lines of one session are answered so.
+fn check(lines: &[(&str, &str)]) {
+    let (mut input, mut answers) = (String::new(), String::new());
+    for (line, answer) in lines {
+        input += &format!("{line}\n");
+        answers += &format!("{answer}\n");
+    }
+    assert_eq!(output(input.as_bytes()), answers);
+}
+
 #[test]
 fn counts_of_a_partition() {
-    // The fourth put flushes three entries, the last flush drops them again.
-    let lines = [
+    // The fourth put flushes three entries, the last flush pushes them out.
+    check(&[
         (FORMAT, "(ok 0)"),
         ("(count 0)", "(ok 0)"),
         ("(count 1)", "(refused 4 0)"),
@@ -267,13 +286,36 @@ fn counts_of_a_partition() {
         ("(count 0)", "(ok 5)"),
         ("(flush 0)", "(ok 1)"),
         ("(count 0)", "(ok 2)"),
-    ];
-    let input: String = lines.iter().map(|(line, _)| format!("{line}\n")).collect();
-    let answers: String = lines
-        .iter()
-        .map(|(_, answer)| format!("{answer}\n"))
-        .collect();
-    assert_eq!(output(input.as_bytes()), answers);
+    ]);
+}
+
+#[test]
+fn drops_of_a_partition() {
+    // Two batches, the first with the keys 1, 2 and 3. The list has one place.
+    check(&[
+        (FORMAT, "(ok 0)"),
+        ("(drop 0)", "(refused 23 0)"),
+        ("(drop 1)", "(refused 4 0)"),
+        ("(put 1 10)", "(ok 0)"),
+        ("(put 2 20)", "(ok 0)"),
+        ("(put 3 30)", "(ok 0)"),
+        ("(put 0 40)", "(ok 1)"),
+        ("(flush 0)", "(ok 1)"),
+        ("(del 2)", "(ok 0)"),
+        ("(del 0)", "(refused 14 0)"),
+        ("(count 0)", "(ok 4)"),
+        ("(drop 0)", "(ok 0)"),
+        ("(count 0)", "(ok 1)"),
+        ("(get 1)", "(none 0)"),
+        ("(get 0)", "(found 40 1)"),
+        ("(del 0)", "(ok 0)"),
+        ("(put 5 50)", "(ok 0)"),
+        ("(drop 0)", "(ok 0)"),
+        ("(get 0)", "(none 0)"),
+        ("(get 5)", "(found 50 0)"),
+        ("(drop 0)", "(refused 23 0)"),
+        ("(count 0)", "(ok 1)"),
+    ]);
 }
 
 #[test]

@@ -316,10 +316,12 @@ fn random_table(rng: &mut Rng) -> (Table, Vec<u64>) {
     let (mut table, keys) = (Table::new(rng.small_geometry()), rng.keys(number));
     for _ in 0..rng.below(400) {
         let key = rng.pick(&keys);
-        match rng.below(12) {
-            0..=7 => drop(table.put(key, rng.value())),
-            8..=10 => drop(table.del(key)),
-            _ => drop(table.flush(home(table.g, key).0 as u32)),
+        let t = home(table.g, key).0 as u32;
+        match rng.below(24) {
+            0..=15 => drop(table.put(key, rng.value())),
+            16..=21 => drop(table.del(key)),
+            22 => drop(table.flush(t)),
+            _ => drop(table.drop_oldest(t)),
         }
     }
     (table, keys)

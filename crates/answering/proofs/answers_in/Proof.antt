@@ -6,7 +6,7 @@ use borrow.Author.Tests.{eq-eqb, ne-eqb}
 use Rattle.model.specs.Search.{isSome}
 use Rattle.model.specs.Keys.{partitionOf, pageOf}
 use Rattle.model.specs.Page.{searched}
-use Rattle.model.specs.Partition.{headOf, live}
+use Rattle.model.specs.Partition.{liveOf}
 use Rattle.model.specs.Get.{sought}
 use Rattle.model.specs.PartitionText.{sourcePage, isFoundIn, answersIn}
 use Rattle.model.proofs.Lookup.{sought-listed, sought-unlisted}
@@ -46,7 +46,7 @@ returns-3 : tie.Need-returns-3
 returns-3 c = sym (here (c .before .before .before) ∙ ap (isFoundIn _) (sought-listed _ _ _ _ _ (told-at (c .before .before .find .ensures) (c .enum-told .given .1))))
 
 -- it is not listed
-unlisted : (c : tie.After-enum-told2) → let a = c .before .before .before .before .before .before .before .before .before .before .before .args in sought (a .g) (a .key) (a .part .now) (a .flash .now) ≡ soughtAmong (a .g) (live (a .g) (headOf (a .part .now))) (a .key) (a .part .now) (a .flash .now)
+unlisted : (c : tie.After-enum-told2) → let a = c .before .before .before .before .before .before .before .before .before .before .before .args in sought (a .g) (a .key) (a .part .now) (a .flash .now) ≡ soughtAmong (a .g) (liveOf (a .part .now)) (a .key) (a .part .now) (a .flash .now)
 unlisted c =
     let a = c .before .before .before .before .before .before .before .before .before .before .before .args in
     rw (← passing-from (a .g) (a .key) (a .part .now)) (sought-unlisted _ _ _ _ (told-at (c .before .before .find .ensures) (c .enum-told2 .given .1)))
@@ -56,7 +56,7 @@ returns-4 c =
     let u = c .before .before in
     let a = u .before .before .before .before .before .before .before .before .before .before .before .args in
     let e = c .enum-told3 .given .1 in
-    sym (here (u .before .before .before) ∙ rw (e, unlisted u) (from-buffer (a .g) (live (a .g) (headOf (a .part .now))) (a .key) (a .part .now) (a .flash .now) (rw e at (holds (u .before .before .before)))))
+    sym (here (u .before .before .before) ∙ rw (e, unlisted u) (from-buffer (a .g) (liveOf (a .part .now)) (a .key) (a .part .now) (a .flash .now) (rw e at (holds (u .before .before .before)))))
 
 is-batch-asked-requires : tie.Need-is-batch-asked-requires
 is-batch-asked-requires c κs =

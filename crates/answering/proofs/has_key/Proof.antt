@@ -22,7 +22,7 @@ use Rattle.answering.proofs.has_key.Statement.{statement}
 use Rattle.answering.proofs.has_key.Tie as tie
 
 slot-of-requires : tie.Need-slot-of-requires
-slot-of-requires c κs = let p = c .before .before .pre in (p .0 .whole .fine, omega (arith, live-bounds _ _ _ (p .1 .0)))
+slot-of-requires c κs = let p = c .before .before .pre in (p .0 .whole .fine, omega (arith, live-bounds _ _ (p .1 .0)))
 
 passes-requires : tie.Need-passes-requires
 passes-requires c κs = let w = c .before .before .before .pre .0 .whole in (w .fine, (slot-is-lt _ (w .fine) _ (c .slot-of .ensures), w .long))

@@ -6,7 +6,7 @@ use native.Mathlib.Omega.{arith}
 use borrow.Author.Needs.{needs}
 use borrow.Author.Tests.{not-true, not-false}
 use Rattle.model.specs.Keys.{pageOf}
-use Rattle.model.specs.Partition.{headOf, flushesOf, bufferOf, live, batchPasses}
+use Rattle.model.specs.Partition.{flushesOf, bufferOf, liveOf, batchPasses}
 use Rattle.model.specs.Answers.{buffer, batch}
 use Rattle.model.specs.Get.{hitIn}
 use Rattle.model.specs.PartitionText.{isFoundIn}
@@ -28,7 +28,7 @@ find-requires c κs =
 
 -- by what the buffer page holds of the key, and what the younger batches answer
 asked-of : (c : tie.After-find) → let a = c .before .before .before .before .args in let page = bufferOf (a .g) (a .part .now) (pageOf (a .g) (a .key)) in
-    isFoundIn (batch (a .n)) (soughtAmong (a .g) (live (a .g) (headOf (a .part .now))) (a .key) (a .part .now) (a .flash .now))
+    isFoundIn (batch (a .n)) (soughtAmong (a .g) (liveOf (a .part .now)) (a .key) (a .part .now) (a .flash .now))
     ≡ isAbsent (hitIn page 0 buffer (foundAt (c .find .result)) (readAmong (a .g) (flushesOf (a .part .now) - a .n) (a .key) (a .part .now) (a .flash .now))) && batchPasses (a .g) (a .key) (a .part .now) (a .n)
 asked-of c =
     let s = c .before .before .before .before in
@@ -43,7 +43,7 @@ returns c =
     sym (asked-of f ∙ rw (c .before .before .enum-told2 .given .1, answers))
 
 slot-of-requires : tie.Need-slot-of-requires
-slot-of-requires c κs = let p = c .before .before .before .before .before .before .before .before .pre in (p .0 .whole .fine, omega (arith, live-bounds _ _ _ (p .1 .0)))
+slot-of-requires c κs = let p = c .before .before .before .before .before .before .before .before .pre in (p .0 .whole .fine, omega (arith, live-bounds _ _ (p .1 .0)))
 
 passes-requires : tie.Need-passes-requires
 passes-requires c κs = let w = c .before .before .before .before .before .before .before .before .before .before .pre .0 .whole in (w .fine, (slot-is-lt _ (w .fine) _ (c .before .slot-of .ensures), w .long))

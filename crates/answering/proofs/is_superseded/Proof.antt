@@ -26,14 +26,14 @@ loop-holds : tie.Need-loop-holds Inv-loop μ-loop
 loop-holds c =
     let s = c .before .before .before .before in
     let e = flushes-is (c .read .ensures) in
-    (omega (arith, e, live-bounds _ _ _ (s .pre .1 .0)), omega (arith, e), asking-all _ _ _ _ _ _ e)
+    (omega (arith, e, live-bounds _ _ (s .pre .1 .0)), omega (arith, e), asking-all _ _ _ _ _ _ e)
 
 -- a batch that is younger than a live one is live
-younger : (c : tie.In-loop Inv-loop μ-loop) → let l = c .before in let a = l .before .before .before .before .before .args in isLive (a .g) (headOf (a .part .now)) (l .loop .next) ≡ true
+younger : (c : tie.In-loop Inv-loop μ-loop) → let l = c .before in let a = l .before .before .before .before .before .args in isLive (headOf (a .part .now)) (l .loop .next) ≡ true
 younger c =
     let l = c .before in
-    let b = live-bounds _ _ _ (l .before .before .before .before .before .pre .1 .0) in
-    bounds-live _ _ _ (omega (arith, b)) (omega (arith, l .loop .inv .1)) (omega (arith, b))
+    let b = live-bounds _ _ (l .before .before .before .before .before .pre .1 .0) in
+    bounds-live _ _ (omega (arith, b)) (omega (arith, l .loop .inv .1)) (omega (arith, b))
 
 has-key-requires : tie.Need-has-key-requires Inv-loop μ-loop
 has-key-requires c κs = (c .before .before .before .before .before .before .pre .0, (younger c, c .before .before .before .mix .ensures))

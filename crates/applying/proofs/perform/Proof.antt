@@ -45,6 +45,12 @@ returns-6 c =
 
 returns-7 : tie.Need-returns-7
 returns-7 c =
+    let made = c .before .before .before .before .before in
+    let read = made .before .before .before .before .before .before .before in
+    calls (read .before .before .before .before .before .pre) (known formCall (read .read-line .ensures) (made .before .before .before .before .before .partition3 .given .1)) (made .drop .ensures) (c .before .before .write-written6 .ensures)
+
+returns-8 : tie.Need-returns-8
+returns-8 c =
     let read = c .before .before .before .before .before .before in
     bad (read .before .before .before .before .before .pre) (known formCall (read .read-line .ensures) (c .before .before .before .before .enum-told .given .1)) (c .before .before .write-bad .ensures)
 
@@ -58,6 +64,7 @@ perform-spec =
     (λ c. search needs) (λ c κs. search needs) (λ c κs. search needs)
     (λ c. search needs) (λ c κs. search needs) (λ c κs. search needs)
     (λ c. search needs) (λ c κs. search needs) (λ c κs. search needs)
+    (λ c. search needs) (λ c κs. search needs) (λ c κs. search needs)
     (λ c. search needs) (λ c κs. search needs)
     (λ c. search needs) (λ c. search needs) (λ c. search needs) returns
     (λ c. search needs) (λ c. search needs) (λ c. search needs) returns-2
@@ -65,4 +72,5 @@ perform-spec =
     (λ c. search needs) (λ c. search needs) (λ c. search needs) returns-4
     (λ c. search needs) (λ c. search needs) (λ c. search needs) returns-5
     (λ c. search needs) (λ c. search needs) (λ c. search needs) returns-6
-    (λ c. search needs) returns-7)
+    (λ c. search needs) (λ c. search needs) (λ c. search needs) returns-7
+    (λ c. search needs) returns-8)

@@ -11,10 +11,10 @@ use Rattle.deletes.proofs.expire.Statement.{statement}
 use Rattle.deletes.proofs.expire.Tie as tie
 
 abbrev Inv-loop : tie.InvT-loop
-Inv-loop list₀ n kept flushes last stay₀ i₀ list stay i = (i ≤ n) × (stay ≤ i) × (length list ≡ length list₀) × Closed (expiring kept flushes list₀) i list₀ list stay
+Inv-loop list₀ n back flushes last stay₀ i₀ list stay i = (i ≤ n) × (stay ≤ i) × (length list ≡ length list₀) × Closed (expiring back flushes list₀) i list₀ list stay
 
 abbrev μ-loop : tie.MeasureT-loop
-μ-loop list₀ n kept flushes last stay₀ i₀ list stay i = n - i
+μ-loop list₀ n back flushes last stay₀ i₀ list stay i = n - i
 
 loop-holds : tie.Need-loop-holds Inv-loop μ-loop
 loop-holds c = (omega arith, omega arith, refl, closed-none _ _)
@@ -23,7 +23,7 @@ loop-holds c = (omega arith, omega arith, refl, closed-none _ _)
 stamp : (c : tie.After-u32-at Inv-loop μ-loop) → c .u32-at .result ≡ stampAt (c .before .before .before .before .before .args .list .now) (c .before .before .before .loop .i)
 stamp c = c .u32-at .ensures ∙ closed-word (c .before .before .before .loop .inv .3) (omega arith) 4 _ (omega arith)
 
-turn : (c : tie.Joined1 Inv-loop μ-loop) → let a = c .before .before .before .before .before .before .args in Closed (expiring (a .kept) (a .flushes) (a .list .now)) (c .before .before .before .before .loop .i + 1) (a .list .now) (c .if1 .list) (c .if1 .stay)
+turn : (c : tie.Joined1 Inv-loop μ-loop) → let a = c .before .before .before .before .before .before .args in Closed (expiring (a .back) (a .flushes) (a .list .now)) (c .before .before .before .before .loop .i + 1) (a .list .now) (c .if1 .list) (c .if1 .stay)
 turn c =
     ⊎-elim
     (λ w. rw (w .5 ∙ w .2 .ensures, w .6) (closed-kept (c .before .before .before .before .loop .inv .3) (ne-eqb _ _ (λ e. w .0 .taken (rw (stamp (c .before)) e))) (omega arith)))

@@ -6,13 +6,15 @@ use borrow.Author.Needs.{needs}
 use Rattle.model.specs.DeleteList.{unexpired}
 use Rattle.model.specs.Partition.{unlistedHead, flushesOf, listedOf, listOf}
 use Rattle.model.specs.Refusals.{lastFlush}
-use Rattle.model.specs.Flush.{filtered, delisted}
+use Rattle.model.specs.Batch.{delisted}
+use Rattle.model.specs.Flush.{filtered}
 use Rattle.model.proofs.Sizes.{sizes, slot-is-lt}
 use Rattle.model.proofs.Heads.{head-fits, head-after}
 use Rattle.model.proofs.Checks.{pages-fit}
-use Rattle.head.proofs.Fields.{flushes-is, listed-is}
+use Rattle.model.proofs.ListEntries.{stay-at-most}
+use Rattle.head.proofs.Fields.{flushes-is, listed-is, live-is}
 use Rattle.partition.proofs.Inside.{list-inside}
-use Rattle.flushing.proofs.Preparing.{stay-at-most, filter-made, list-shortened, stay-as-were}
+use Rattle.flushing.proofs.Preparing.{filter-made, list-shortened, stay-as-were}
 use Rattle.flushing.proofs.prepare.Statement.{statement}
 use Rattle.flushing.proofs.prepare.Tie as tie
 
@@ -57,14 +59,16 @@ stay c =
 stay-le : (c : tie.After-expire) → c .expire .result ≤ read-at (made-at c) .read .result .listed
 stay-le c = stay-at-most _ _ _ _ (c .expire .ensures .1)
 
-shorter : (c : tie.After-expire) → let a = start (read-at (made-at c)) .args in c .expire .last .0 ≡ delisted (a .g) (flushesOf (a .part .now)) (listedOf (a .part .now)) (filtered (a .g) (a .part .now))
+shorter : (c : tie.After-expire) → let a = start (read-at (made-at c)) .args in c .expire .last .0 ≡ delisted (a .g) (a .g .kept) (flushesOf (a .part .now)) (listedOf (a .part .now)) (filtered (a .g) (a .part .now))
 shorter c =
     let r = read-at (made-at c) in
     list-shortened _ _ (made (made-at c)) (flushes-is (r .read .ensures)) (listed-is (r .read .ensures)) (c .expire .ensures .0)
 
 -- ---- the new head
 flushed-requires : tie.Need-flushed-requires
-flushed-requires c κs = omega (arith, small (read-at (made-at (c .before .before))))
+flushed-requires c κs =
+    let r = read-at (made-at (c .before .before)) in
+    (omega (arith, small r), omega (arith, live-is (r .read .ensures), head-fits _ _ (start r .pre .1 .0 .head) .kept))
 
 cast-unlisted : tie.Need-cast-unlisted
 cast-unlisted c = let x = expired-at c in omega (arith, stay-le x, small (read-at (made-at x)))

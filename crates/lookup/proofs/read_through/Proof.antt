@@ -6,10 +6,10 @@ use native.Mathlib.Omega.{arith}
 use lib.ListN.{length}
 use borrow.Author.Tests.{not-true, not-false}
 use Rattle.model.specs.Geometry.{partitions, slotPageAt}
-use Rattle.model.specs.Partition.{headOf, slot, live, batchPasses}
+use Rattle.model.specs.Partition.{headOf, slot, batchPasses}
 use Rattle.model.proofs.Heads.{head-fits}
 use Rattle.model.proofs.Sizes.{sizes, slot-is-lt, partition-of-lt, page-of-lt}
-use Rattle.head.proofs.Fields.{flushes-is}
+use Rattle.head.proofs.Fields.{flushes-is, live-is}
 use Rattle.partition.proofs.Inside.{list-inside}
 use Rattle.geometry.proofs.Slots.{slot-after}
 use Rattle.answers.specs.Told.{answered}
@@ -37,28 +37,22 @@ abbrev Turn : Type 0
 Turn = tie.At-batches Inv-loop μ-loop Inv-batches μ-batches
 
 abbrev start : Turn → tie.Start Inv-loop μ-loop Inv-batches μ-batches
-start l = l .before .before .before .before .before .before .before .before .before
+start l = l .before .before .before .before .before .before .before .before
 
--- the head is the partition's, and counts what is live in it
-counted : (c : tie.After-live Inv-loop μ-loop Inv-batches μ-batches) → let a = c .before .before .before .before .before .before .before .args in c .live .result ≡ live (a .g) (headOf (a .part .now))
-counted c = let a = c .before .before .before .before .before .before .before .args in c .live .ensures ∙ ap (live (a .g)) (c .before .read .ensures)
-
-live-requires : tie.Need-live-requires Inv-loop μ-loop Inv-batches μ-batches
-live-requires c κs = rw (c .read .ensures) (c .before .before .before .before .before .before .pre .1 .0)
-
+-- the head is the partition's, and its live number fits
 batches-holds : tie.Need-batches-holds Inv-loop μ-loop Inv-batches μ-batches
 batches-holds c =
-    let s = c .before .before .before .before .before .before .before .before in
+    let s = c .before .before .before .before .before .before .before in
     let a = s .args in
     let z = sizes (a .g) (s .pre .0 .fine) in
     let h = head-fits (a .g) (headOf (a .part .now)) (s .pre .1 .0) in
-    let e = counted (c .before) in
-    let f = flushes-is (c .before .before .read .ensures) in
+    let e = live-is (c .before .read .ensures) in
+    let f = flushes-is (c .before .read .ensures) in
     (omega (arith, e, f, h .flushed), omega (arith, e, h .kept), refl, at-start (a .g) (a .key) (a .part .now) (a .flash .now) _ _ e f, slot-after _ _)
 
 -- the key's partition and page are in range
-ranges : (l : Turn) → (l .before .before .before .before .before .partition-of .result < partitions (start l .args .g)) × (l .before .before .before .before .page-of .result < start l .args .g .pages)
-ranges l = let s = start l in let ok = s .pre .0 .fine in (omega (arith, l .before .before .before .before .before .partition-of .ensures, partition-of-lt _ ok (s .args .key) (omega arith)), omega (arith, l .before .before .before .before .page-of .ensures, page-of-lt _ ok (s .args .key)))
+ranges : (l : Turn) → (l .before .before .before .before .partition-of .result < partitions (start l .args .g)) × (l .before .before .before .page-of .result < start l .args .g .pages)
+ranges l = let s = start l in let ok = s .pre .0 .fine in (omega (arith, l .before .before .before .before .partition-of .ensures, partition-of-lt _ ok (s .args .key) (omega arith)), omega (arith, l .before .before .before .page-of .ensures, page-of-lt _ ok (s .args .key)))
 
 -- the slot is that of the turn's batch, and the one after the next turn's
 slotted : (c : tie.After-slot-before Inv-loop μ-loop Inv-batches μ-batches) → let l = c .before .before in c .slot-before .result ≡ slot (start l .args .g) (l .batches .next)
@@ -69,21 +63,21 @@ slot-kept c = slotted c ∙ slot-after _ _
 
 -- the filter that is tested is that of the turn's batch
 tested : (c : tie.After-passes Inv-loop μ-loop Inv-batches μ-batches) → let l = c .before .before .before in let a = start l .args in c .passes .result ≡ batchPasses (a .g) (a .key) (a .part .now) (l .batches .next)
-tested c = let l = c .before .before .before in let a = start l .args in own-filter (a .g) (a .key) (a .part .now) (a .flash .now) (l .batches .next) _ _ (c .passes .result) (c .passes .ensures) (l .before .before .before .before .before .before .mix .ensures) (slotted (c .before))
+tested c = let l = c .before .before .before in let a = start l .args in own-filter (a .g) (a .key) (a .part .now) (a .flash .now) (l .batches .next) _ _ (c .passes .result) (c .passes .ensures) (l .before .before .before .before .before .mix .ensures) (slotted (c .before))
 
 -- the turn of a page
 abbrev turn : tie.After-slot-page-at Inv-loop μ-loop Inv-batches μ-batches → Turn
 turn c = c .before .before .before .before .before
 
 -- it begins where the definition says, inside flash
-spot : (c : tie.After-slot-page-at Inv-loop μ-loop Inv-batches μ-batches) → let l = turn c in let a = start l .args in c .slot-page-at .result ≡ slotPageAt (a .g) (l .before .before .before .before .before .partition-of .result) (slot (a .g) (l .batches .next)) (l .before .before .before .before .page-of .result)
-spot c = let l = turn c in c .slot-page-at .ensures ∙ ap (λ (j : ℕ). slotPageAt (start l .args .g) (l .before .before .before .before .before .partition-of .result) j (l .before .before .before .before .page-of .result)) (slotted (c .before .before .before))
+spot : (c : tie.After-slot-page-at Inv-loop μ-loop Inv-batches μ-batches) → let l = turn c in let a = start l .args in c .slot-page-at .result ≡ slotPageAt (a .g) (l .before .before .before .before .partition-of .result) (slot (a .g) (l .batches .next)) (l .before .before .before .page-of .result)
+spot c = let l = turn c in c .slot-page-at .ensures ∙ ap (λ (j : ℕ). slotPageAt (start l .args .g) (l .before .before .before .before .partition-of .result) j (l .before .before .before .page-of .result)) (slotted (c .before .before .before))
 
 inside : (c : tie.After-slot-page-at Inv-loop μ-loop Inv-batches μ-batches) → let a = start (turn c) .args in (c .slot-page-at .result + a .g .page ≤ length (a .flash .now)) × (c .slot-page-at .result + a .g .page ≤ 2147483648)
 inside c =
     let l = turn c in
     let s = start l in
-    let h = page-in-flash (s .args .g) (s .pre .0 .fine) (c .slot-page-at .result) (l .before .before .before .before .before .partition-of .result) (l .batches .next) (l .before .before .before .before .page-of .result) (ranges l .0) (ranges l .1) (spot c) in
+    let h = page-in-flash (s .args .g) (s .pre .0 .fine) (c .slot-page-at .result) (l .before .before .before .before .partition-of .result) (l .batches .next) (l .before .before .before .page-of .result) (ranges l .0) (ranges l .1) (spot c) in
     (omega (arith, h .0, s .pre .1 .1), h .1)
 
 passes-requires : tie.Need-passes-requires Inv-loop μ-loop Inv-batches μ-batches
@@ -115,7 +109,7 @@ returns c =
     let l = turn p in
     let a = start l .args in
     sym
-    (at-bad (a .g) (a .key) (a .part .now) (a .flash .now) _ _ _ (l .batches .inv .3) (omega arith) (passed (p .before)) _ _ _ (l .before .before .before .before .before .partition-of .ensures) (l .before .before .before .before .page-of .ensures) (spot p) (c .before .is-expected-at .result) (c .before .is-expected-at .ensures)
+    (at-bad (a .g) (a .key) (a .part .now) (a .flash .now) _ _ _ (l .batches .inv .3) (omega arith) (passed (p .before)) _ _ _ (l .before .before .before .before .partition-of .ensures) (l .before .before .before .page-of .ensures) (spot p) (c .before .is-expected-at .result) (c .before .is-expected-at .ensures)
     (not-true _ (c .if2 .taken)))
 
 u16-at-requires : tie.Need-u16-at-requires Inv-loop μ-loop Inv-batches μ-batches
@@ -133,7 +127,7 @@ entered c =
     let l = turn p in
     let s = start l in
     let a = s .args in
-    at-page (a .g) (a .key) (a .part .now) (a .flash .now) _ _ _ (l .batches .inv .3) (omega arith) (passed (p .before)) _ _ _ (l .before .before .before .before .before .partition-of .ensures) (l .before .before .before .before .page-of .ensures) (spot p) (x .is-expected-at .result) (x .is-expected-at .ensures)
+    at-page (a .g) (a .key) (a .part .now) (a .flash .now) _ _ _ (l .batches .inv .3) (omega arith) (passed (p .before)) _ _ _ (l .before .before .before .before .partition-of .ensures) (l .before .before .before .page-of .ensures) (spot p) (x .is-expected-at .result) (x .is-expected-at .ensures)
     (s .pre .0 .fine) (c .u16-at .result) (c .u16-at .ensures) (not-false _ (c .before .if2 .left))
 
 loop-holds : tie.Need-loop-holds Inv-loop μ-loop Inv-batches μ-batches
@@ -170,4 +164,4 @@ returns-3 c =
     (sym (at-hit (a .g) (a .key) (a .part .now) (a .flash .now) _ _ _ _ _ _ _ (l .loop .inv .5) (omega arith) (omega arith) (sym (c .before .before .u64-at .ensures) ∙ c .before .if3 .taken)))
 
 pub read-through-spec : {M : Type 1} → statement M
-read-through-spec = tie.close (tie.spec Inv-loop μ-loop Inv-batches μ-batches (λ c κs. tt) (λ c κs. c .before .before .before .pre .0 .fine) (λ c κs. c .before .before .before .before .pre .0 .fine) (λ c κs. omega (arith, list-inside _ _ (c .before .before .before .before .before .pre .0))) live-requires (λ c. let z = sizes _ (c .before .before .before .before .before .before .before .before .pre .0 .fine) in omega arith) batches-holds (λ c κs. start (c .before) .pre .0 .fine) (λ c. omega arith) (λ c. omega arith) passes-requires (λ c. omega arith) batches-again (λ c. omega arith) slot-page-at-requires is-expected-at-requires returns u16-at-requires (λ c. omega arith) (λ c. omega (arith, inside (c .before .before .before))) (λ c κs. omega (arith, entered c .0, inside (c .before .before .before))) (λ c. omega (arith, c .skip .ensures .within)) loop-holds (λ c. omega arith) (λ c. omega arith) (λ c κs. omega arith) (λ c. omega arith) (λ c. omega arith) (λ c. omega arith) (λ c κs. omega arith) (λ c. omega arith) (λ c. omega arith) loop-again (λ c. omega arith) batches-again-2 returns-2 returns-3)
+read-through-spec = tie.close (tie.spec Inv-loop μ-loop Inv-batches μ-batches (λ c κs. tt) (λ c κs. c .before .before .before .pre .0 .fine) (λ c κs. c .before .before .before .before .pre .0 .fine) (λ c κs. omega (arith, list-inside _ _ (c .before .before .before .before .before .pre .0))) (λ c. let z = sizes _ (c .before .before .before .before .before .before .before .pre .0 .fine) in omega arith) batches-holds (λ c κs. start (c .before) .pre .0 .fine) (λ c. omega arith) (λ c. omega arith) passes-requires (λ c. omega arith) batches-again (λ c. omega arith) slot-page-at-requires is-expected-at-requires returns u16-at-requires (λ c. omega arith) (λ c. omega (arith, inside (c .before .before .before))) (λ c κs. omega (arith, entered c .0, inside (c .before .before .before))) (λ c. omega (arith, c .skip .ensures .within)) loop-holds (λ c. omega arith) (λ c. omega arith) (λ c κs. omega arith) (λ c. omega arith) (λ c. omega arith) (λ c. omega arith) (λ c κs. omega arith) (λ c. omega arith) (λ c. omega arith) loop-again (λ c. omega arith) batches-again-2 returns-2 returns-3)

@@ -26,11 +26,11 @@ returns : tie.Need-returns
 returns c = rw (add-sub-cancel-left, c .before .before .before .enum-told .given .1, c .before .before .buffer-at .ensures)
 
 -- a page of a batch, which is live
-alive : (c : tie.After-known-told) → let a = c .before .before .before .before .before .args in isLive (a .g) (headOf (a .part .now)) (c .before .at .given .0 .0) ≡ true
+alive : (c : tie.After-known-told) → let a = c .before .before .before .before .before .args in isLive (headOf (a .part .now)) (c .before .at .given .0 .0) ≡ true
 alive c = rw (c .before .at .given .1) at (c .before .before .before .before .before .pre .source)
 
 slot-of-requires : tie.Need-slot-of-requires
-slot-of-requires c κs = (c .before .before .before .before .before .pre .readable .whole .fine, omega (arith, live-bounds _ _ _ (alive c)))
+slot-of-requires c κs = (c .before .before .before .before .before .pre .readable .whole .fine, omega (arith, live-bounds _ _ (alive c)))
 
 slot-page-at-requires : tie.Need-slot-page-at-requires
 slot-page-at-requires c κs = let p = c .before .before .before .before .before .before .pre in let ok = p .readable .whole .fine in (ok, (omega (arith, p .readable .below), (slot-is-lt _ ok _ (c .slot-of .ensures), p .below)))

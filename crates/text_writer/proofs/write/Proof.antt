@@ -7,13 +7,14 @@ use native.Mathlib.Omega.{arith}
 use lib.ListN.{length}
 use lib.Seq.{sets}
 use Rattle.model.specs.declared.Geometry.{Geometry}
-use Rattle.model.specs.Partition.{headOf, live}
+use Rattle.model.specs.Partition.{headOf, liveOf}
 use Rattle.model.specs.Answers.{Place}
 use Rattle.model.specs.PartitionText.{joined, source, sourceText}
 use Rattle.model.proofs.Heads.{head-fits}
 use Rattle.model.proofs.Sizes.{sizes}
 use Rattle.model.proofs.Joining.{joined-none, joined-more, joined-length, joined-within, partition-text}
 use Rattle.answers.specs.Told as told
+use Rattle.head.proofs.Fields.{live-is}
 use Rattle.partition.proofs.Inside.{list-inside}
 use Rattle.printer.specs.Puts.{Puts}
 use Rattle.printer.proofs.Printing.{puts-append}
@@ -23,7 +24,7 @@ use Rattle.text_writer.proofs.write.Tie as tie
 
 -- the text of the i-th source
 abbrev textOf : Geometry → ℕ → List ℕ → List ℕ → ℕ → List ℕ
-textOf g t p f i = sourceText g t p f (source g (headOf p) i)
+textOf g t p f i = sourceText g t p f (source (headOf p) i)
 
 abbrev Inv-loop : tie.InvT-loop
 Inv-loop text₀ part flash g t last end₀ i₀ text end i = (i ≤ last + 1) × (length text ≡ length text₀) × Puts (joined i (textOf g t part flash)) 0 text₀ end text
@@ -33,17 +34,14 @@ abbrev μ-loop : tie.MeasureT-loop
 
 -- the function's start, from a turn's
 abbrev start : tie.At-loop Inv-loop μ-loop → tie.Start Inv-loop μ-loop
-start l = l .before .before .before .before .before .before
-
-live-requires : tie.Need-live-requires Inv-loop μ-loop
-live-requires c κs = rw (c .read .ensures) (c .before .before .before .before .pre .0 .head)
+start l = l .before .before .before .before .before
 
 -- the last source is the buffer, behind the live batches
-counted : (c : tie.After-live Inv-loop μ-loop) → let a = c .before .before .before .before .before .args in c .live .result ≡ live (a .g) (headOf (a .part .now))
-counted c = let a = c .before .before .before .before .before .args in c .live .ensures ∙ ap (live (a .g)) (c .before .read .ensures)
+counted : (c : tie.After-read Inv-loop μ-loop) → c .read .result .live ≡ liveOf (c .before .before .before .before .args .part .now)
+counted c = live-is (c .read .ensures)
 
-few : (c : tie.After-live Inv-loop μ-loop) → c .live .result ≤ 32
-few c = let s = c .before .before .before .before .before in omega (arith, counted c, head-fits (s .args .g) (headOf (s .args .part .now)) (s .pre .0 .head) .kept, sizes (s .args .g) (s .pre .0 .whole .fine) .kept-max)
+few : (c : tie.After-read Inv-loop μ-loop) → c .read .result .live ≤ 32
+few c = let s = c .before .before .before .before in omega (arith, counted c, head-fits (s .args .g) (headOf (s .args .part .now)) (s .pre .0 .head) .kept, sizes (s .args .g) (s .pre .0 .whole .fine) .kept-max)
 
 loop-holds : tie.Need-loop-holds Inv-loop μ-loop
 loop-holds c = (omega arith, refl, rw joined-none (record { ends = omega arith; holds = refl }))
@@ -57,9 +55,9 @@ write-source-requires c κs =
     let s = start l in
     let a = s .args in
     let from = c .before .source in
-    let within = joined-within (suc (l .loop .i)) (live (a .g) (headOf (a .part .now)) + 1) (textOf (a .g) (a .t) (a .part .now) (a .flash .now)) (omega (arith, counted (l .before))) in
+    let within = joined-within (suc (l .loop .i)) (liveOf (a .part .now) + 1) (textOf (a .g) (a .t) (a .part .now) (a .flash .now)) (omega (arith, counted (l .before))) in
     let here : length (sourceText (a .g) (a .t) (a .part .now) (a .flash .now) (told.place (from .result))) ≡ length (textOf (a .g) (a .t) (a .part .now) (a .flash .now) (l .loop .i)) = ap (λ (at : Place). length (sourceText (a .g) (a .t) (a .part .now) (a .flash .now) at)) (from .ensures) in
-    (s .pre .0, (rw (from .ensures) (source-is (a .g) (headOf (a .part .now)) (l .loop .i)), omega (arith, here, within, joined-length (l .loop .i) (textOf (a .g) (a .t) (a .part .now) (a .flash .now)), ap length (partition-text (a .g) (a .t) (a .part .now) (a .flash .now)), s .pre .1, l .loop .inv .1, l .loop .inv .2 .ends)))
+    (s .pre .0, (rw (from .ensures) (source-is _ _ _ _ (s .pre .0) (l .loop .i)), omega (arith, here, within, joined-length (l .loop .i) (textOf (a .g) (a .t) (a .part .now) (a .flash .now)), ap length (partition-text (a .g) (a .t) (a .part .now) (a .flash .now)), s .pre .1, l .loop .inv .1, l .loop .inv .2 .ends)))
 
 loop-again : tie.Need-loop-again Inv-loop μ-loop
 loop-again c =
@@ -72,8 +70,8 @@ returns : tie.Need-returns Inv-loop μ-loop
 returns c =
     let l = c .before in
     let a = start l .args in
-    let last : l .loop .i ≡ live (a .g) (headOf (a .part .now)) + 1 = omega (arith, counted (l .before)) in
+    let last : l .loop .i ≡ liveOf (a .part .now) + 1 = omega (arith, counted (l .before)) in
     l .loop .inv .2 .holds ∙ ap (λ (n : ℕ). sets (a .text .now) 0 (joined n (textOf (a .g) (a .t) (a .part .now) (a .flash .now)))) last ∙ ap (sets (a .text .now) 0) (sym (partition-text (a .g) (a .t) (a .part .now) (a .flash .now)))
 
 pub write-spec : {M : Type 1} → statement M
-write-spec = tie.close (tie.spec Inv-loop μ-loop (λ c κs. omega (arith, list-inside _ _ (c .before .before .before .pre .0 .whole))) live-requires loop-holds source-requires write-source-requires (λ c. omega (arith, few (c .before .before .before .before .before .before .before))) (λ c. omega arith) loop-again (λ c. omega arith) returns)
+write-spec = tie.close (tie.spec Inv-loop μ-loop (λ c κs. omega (arith, list-inside _ _ (c .before .before .before .pre .0 .whole))) loop-holds source-requires write-source-requires (λ c. omega (arith, few (c .before .before .before .before .before .before .before))) (λ c. omega arith) loop-again (λ c. omega arith) returns)

@@ -9,6 +9,7 @@ use Rattle.model.specs.Partition as model
 use Rattle.model.specs.Partition.{headOf, isLive}
 use Rattle.model.specs.Refusals.{refuseIf, headOverfull}
 use Rattle.model.specs.View.{viewChecks}
+use Rattle.model.proofs.Heads.{head-fits}
 use Rattle.model.proofs.Checks.{view-12, view-12-page, view-last}
 use Rattle.partition.proofs.Inside.{list-inside}
 use Rattle.view.proofs.decide.Statement.{statement}
@@ -25,11 +26,11 @@ of-batch c =
     let s = c .before .before .before .before .before .before in
     let a = s .args in
     let other = ne-eqb _ _ (c .before .if2 .left) in
-    let asked : isLive (a .g) (headOf (a .part .now)) (a .n) ≡ c .is-live .result = sym (c .is-live .ensures ∙ ap (λ (h : model.Head). isLive (a .g) h (a .n)) (e .before .before .read .ensures)) in
+    let asked : isLive (headOf (a .part .now)) (a .n) ≡ c .is-live .result = sym (c .is-live .ensures ∙ ap (λ (h : model.Head). isLive h (a .n)) (e .before .before .read .ensures)) in
     view-last _ _ _ _ _ (s .pre .1 .0) (s .pre .1 .1) (tested (e .before) ∙ e .if1 .left) (rw other) ∙ rw (other, asked)
 
 is-live-requires : tie.Need-is-live-requires
-is-live-requires c κs = sym (c .before .before .is-overfull .ensures) ∙ c .before .if1 .left
+is-live-requires c κs = head-fits _ _ (sym (c .before .before .is-overfull .ensures) ∙ c .before .if1 .left) .flushed
 
 returns : tie.Need-returns
 returns c = let s = c .before .before .before .before in sym (view-12 _ _ _ _ _ (s .pre .1 .0) (s .pre .1 .1) (tested (c .before) ∙ c .if1 .taken))

@@ -67,7 +67,7 @@ pub const ALL: [Rival; 3] = [
     },
 ];
 
-/// Operations a second of each row but flushes and texts, one pass each. The rows that
+/// Operations a second of each row but flushes, texts and drops, one pass each. The rows that
 /// change the store come last, so the others meet what the tables hold.
 pub fn rates(store: &mut dyn Store, tables: &Tables, works: &[Work]) -> Vec<Option<f64>> {
     fill::each_entry(tables, |op| store.put(op.key, op.value));
@@ -101,7 +101,7 @@ fn pass(store: &mut dyn Store, work: &Work) -> f64 {
                 store.put(op.key, op.value);
             }
             Kind::Del => store.del(op.key),
-            Kind::Flush | Kind::Text => {}
+            Kind::Flush | Kind::Text | Kind::Drop => {}
         }
     }
     std::hint::black_box(found);

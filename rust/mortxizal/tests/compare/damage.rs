@@ -1,6 +1,6 @@
 //! Damage to a table: one number somewhere in its areas set to another.
 
-use crate::common::plain::{live, most_entries};
+use crate::common::plain::{live, most_entries, slot};
 use crate::common::{set_word, Rng, Table};
 
 /// Sets the number at a place, of so many bytes, to one near what it is or
@@ -69,7 +69,7 @@ pub fn damage(rng: &mut Rng, table: &mut Table, keys: &[u64]) {
             let flushes = table.flushes(t).into();
             scribble(rng, table.batch(t, slot, q), at, width, flushes, keys);
         }
-        27..=28 => damage_dropped(rng, table, t, q, keys),
+        27..=28 => damage_oldest(rng, table, t, q, keys),
         // The flush numbers are nearly used up, and the batches keep theirs.
         29 => table.set_flushes(t, u32::MAX - rng.below(4) as u32),
         _ => {
@@ -79,43 +79,54 @@ pub fn damage(rng: &mut Rng, table: &mut Table, keys: &[u64]) {
     }
 }
 
-/// A number of a partition's head: F, L, the total or what is behind it.
+/// A number of a partition's head: F, L, the total or the live number.
 fn damage_head(rng: &mut Rng, table: &mut Table, t: usize, keys: &[u64]) {
     let g = table.g;
-    let (at, near) = match rng.below(12) {
+    let (at, near) = match rng.below(14) {
         0..=2 => (0, g.kept),
         3..=5 => (4, g.list),
         6..=8 => (8, most_entries(g)),
         9..=10 => (8, 1),
-        _ => (12, 1),
+        11 => (12, 1),
+        12 => (12, g.kept),
+        _ => (12, table.flushes(t)),
     };
     scribble(rng, table.head(t), at, 4, near.into(), keys);
+}
+
+/// The oldest live batch, as far as the head makes sense.
+fn oldest(table: &mut Table, t: usize) -> u32 {
+    let (flushes, live) = (table.flushes(t), table.live(t));
+    (flushes - live.min(table.g.kept).min(flushes)).saturating_add(1)
 }
 
 fn damage_list(rng: &mut Rng, table: &mut Table, t: usize, keys: &[u64]) {
     let place = rng.below(table.g.list as usize);
     let (at, width) = rng.pick(&[(0, 8), (8, 4), (8, 4), (12, 4)]);
-    let gone = u64::from(table.flushes(t)).wrapping_sub(table.g.kept.into());
-    scribble(rng, table.list_place(t, place), at, width, gone, keys);
+    // With the next flush goes the stamp F + 1 − K, with a drop the oldest batch's.
+    let pushed_out = u64::from(table.flushes(t)).wrapping_sub(table.g.kept.into());
+    let near = rng.pick(&[pushed_out, oldest(table, t).into()]);
+    scribble(rng, table.list_place(t, place), at, width, near, keys);
 }
 
-/// A number of the head of a page that the partition's next flush may drop.
-fn damage_dropped(rng: &mut Rng, table: &mut Table, t: usize, q: usize, keys: &[u64]) {
+/// A number of the head of a page of the oldest live batch, which a drop and
+/// the next flush that pushes it out read.
+fn damage_oldest(rng: &mut Rng, table: &mut Table, t: usize, q: usize, keys: &[u64]) {
     let g = table.g;
-    let flushes = table.flushes(t);
-    let gone = u64::from(flushes) + 1 - u64::from(g.kept.min(flushes));
+    let oldest = oldest(table, t);
     let (at, width, near) = rng.pick(&[
         (0, 2, u64::from(g.page / 16 - 1)),
         (2, 2, q as u64),
         (4, 2, t as u64),
         (6, 2, 0),
-        (8, 4, gone),
+        (8, 4, oldest.into()),
     ]);
-    let slot = (flushes % g.kept) as usize;
+    let slot = slot(g, oldest.into());
     scribble(rng, table.batch(t, slot, q), at, width, near, keys);
 }
 
-/// Puts a partition in order: its list, its pages, and the total that they come to.
+/// Puts a partition in order: its live number, its list, its pages, and the total
+/// that they come to.
 pub fn mend(table: &mut Table, t: usize) {
     let g = table.g;
     let most = (g.page / 16 - 1) as u16;
@@ -126,9 +137,11 @@ pub fn mend(table: &mut Table, t: usize) {
     let listed = table.listed(t).min(g.list);
     table.set_listed(t, listed);
     let flushes = table.flushes(t);
+    let number = table.live(t).min(g.kept).min(flushes);
+    table.set_live(t, number);
     for q in 0..g.pages as usize {
         fit(table.buffer(t, q));
-        for (number, slot) in live(g, flushes.into()) {
+        for (number, slot) in live(g, flushes.into(), number.into()) {
             let page = table.batch(t, slot, q);
             fit(page);
             page[2..8].copy_from_slice(&[q as u8, 0, t as u8, 0, 0, 0]);

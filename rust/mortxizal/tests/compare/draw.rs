@@ -92,10 +92,11 @@ fn partition(rng: &mut Rng, g: Geometry) -> u32 {
 pub fn call(rng: &mut Rng, pair: &mut Pair, keys: &[u64]) -> Call {
     let g = pair.plain.g;
     match rng.below(100) {
-        0..=39 => Call::Put(rng.pick(keys), rng.value()),
-        40..=64 => Call::Get(rng.pick(keys)),
-        65..=79 => Call::Del(rng.pick(keys)),
-        80..=87 => Call::Flush(partition(rng, g)),
+        0..=37 => Call::Put(rng.pick(keys), rng.value()),
+        38..=60 => Call::Get(rng.pick(keys)),
+        61..=75 => Call::Del(rng.pick(keys)),
+        76..=83 => Call::Flush(partition(rng, g)),
+        84..=87 => Call::Drop(partition(rng, g)),
         88..=90 => Call::Count(partition(rng, g)),
         91..=93 => {
             let t = partition(rng, g);

@@ -16,7 +16,7 @@ use std::thread;
 
 use common::call::Call;
 use common::plain::sum_of_counts;
-use common::tally::Outcome::{self, EndsAbove, EndsBelow, Overcounted, Refused};
+use common::tally::Outcome::{self, Refused};
 use common::tally::Tally;
 use common::{flash_need, memory_need, Rng, Table};
 use pair::Pair;
@@ -79,15 +79,14 @@ fn check_total(table: &Table, call: Call) {
 }
 
 /// Whatever the areas held: after a format every call is accepted or is refused
-/// for its arguments, a full list or an empty buffer, and totals are right. A
-/// text is refused for its partition or for a short text area alone.
+/// for its arguments, a full list, an empty buffer or want of a batch, and totals
+/// are right. A text is refused for its partition or for a short text area alone.
 #[test]
 fn sequences_from_a_format() {
-    let honest = |call: &str, outcome| match outcome {
+    let honest = |call: &str, outcome: Outcome| match outcome {
         Refused(2 | 3) => call == "format",
-        Refused(number) => [1, 4, 14, 15, 17, 22].contains(&number),
-        Overcounted | EndsAbove | EndsBelow => false,
-        _ => true,
+        Refused(number) => [1, 4, 14, 15, 17, 22, 23].contains(&number),
+        _ => !outcome.is_overfull(),
     };
     run(
         "sequences_from_a_format",
@@ -178,7 +177,7 @@ fn areas_of_any_length() {
                 pair.counted(rng, tally, call);
             }
         },
-        |_, outcome| !matches!(outcome, Refused(12..) | Overcounted | EndsAbove | EndsBelow),
+        |_, outcome| !matches!(outcome, Refused(12..)) && !outcome.is_overfull(),
         |_, _| true,
     );
 }

@@ -127,6 +127,7 @@ impl Pair {
 fn told(answer: Answer) -> raw::Answer {
     let (status, number, reads, batch, value) = match answer {
         Answer::Done(number) | Answer::Counted(number) => (raw::DONE, number, 0, 0, 0),
+        Answer::Dropped(_) => (raw::DONE, 0, 0, 0, 0),
         Answer::Found(value, reads, batch) => (raw::FOUND, 0, reads, batch, value),
         Answer::None(reads) => (raw::NONE, 0, reads, 0, 0),
         Answer::InMemory(at, size) => (raw::DONE, size as u32, 0, 0, at as u64),
@@ -164,6 +165,7 @@ fn call_raw(call: Call, memory: &mut [u8], flash: &mut [u8]) -> raw::Answer {
         Call::Flush(partition) => raw::flush(memory, flash, partition),
         Call::View(partition, page, flush) => raw::view(memory, flash, partition, page, flush),
         Call::Count(partition) => raw::count(memory, flash, partition),
+        Call::Drop(partition) => raw::drop_oldest(memory, flash, partition),
         Call::Text(..) => unreachable!("a text has its own check"),
     }
 }
@@ -213,9 +215,21 @@ fn check_library(call: Call, memory: &mut [u8], flash: &mut [u8], expected: Answ
         Call::Count(partition) => Index::attach(memory, flash)
             .count(partition)
             .map(Answer::Counted),
+        Call::Drop(partition) => Index::attach(memory, flash)
+            .drop_oldest(partition)
+            .map(|()| dropped(expected)),
         Call::Text(..) => unreachable!("a text has its own check"),
     };
     assert_eq!(answer.unwrap_or_else(refused), expected, "{call:?}");
+}
+
+/// An accepted drop is the expected one: the memory tells which keys left the
+/// list, and is compared.
+fn dropped(expected: Answer) -> Answer {
+    match expected {
+        Answer::Dropped(_) => expected,
+        _ => Answer::Dropped(0),
+    }
 }
 
 fn refused(refused: Refused) -> Answer {

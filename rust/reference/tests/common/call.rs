@@ -2,7 +2,7 @@
 
 use reference::{Geometry, Lookup, Place, Refusal};
 
-use super::plain::home;
+use super::plain::{home, length, number};
 
 /// A call with its arguments.
 #[derive(Clone, Copy, Debug, PartialEq, Eq)]
@@ -16,6 +16,7 @@ pub enum Call {
     Count(u32),
     /// Of a partition, with a text area of so many bytes.
     Text(u32, usize),
+    Drop(u32),
 }
 
 impl Call {
@@ -24,13 +25,15 @@ impl Call {
         match self {
             Call::Format(_) => None,
             Call::Put(key, _) | Call::Get(key) | Call::Del(key) => Some(home(g, key).0 as u32),
-            Call::Flush(t) | Call::View(t, ..) | Call::Count(t) | Call::Text(t, _) => Some(t),
+            Call::Flush(t) | Call::View(t, ..) | Call::Count(t) => Some(t),
+            Call::Text(t, _) | Call::Drop(t) => Some(t),
         }
     }
 }
 
 /// A call's answer. A view tells where its part begins and how long it is, a
-/// text how long it is and a digest of the whole text area behind the call.
+/// text how long it is and a digest of the whole text area behind the call, a
+/// drop how many keys left the list.
 #[derive(Clone, Copy, Debug, PartialEq, Eq)]
 pub enum Answer {
     Refused(u32, u32),
@@ -41,6 +44,7 @@ pub enum Answer {
     InMemory(usize, usize),
     InFlash(usize, usize),
     Text(usize, u64),
+    Dropped(u32),
 }
 
 /// What a text area is filled with before a call.
@@ -60,6 +64,11 @@ pub fn call_index(call: Call, memory: &mut [u8], flash: &mut [u8]) -> Answer {
             let (answer, area) = index_text(memory, flash, t, room);
             answer.map(|length| Answer::Text(length, digest(&area)))
         }
+        Call::Drop(t) => {
+            let before = listed(memory, t);
+            let answer = reference::drop_oldest(memory, flash, t);
+            answer.map(|()| Answer::Dropped(before - listed(memory, t)))
+        }
         Call::View(t, q, n) => {
             let part = reference::view_part(memory, flash, t, q, n);
             let place = offset(part, memory, flash);
@@ -72,6 +81,17 @@ pub fn call_index(call: Call, memory: &mut [u8], flash: &mut [u8]) -> Answer {
         }
     }
     .unwrap_or_else(refused)
+}
+
+/// L of a partition, or 0 where there is none.
+fn listed(memory: &[u8], t: u32) -> u32 {
+    let opening = memory.first_chunk().and_then(Geometry::from_opening);
+    let Some(g) = opening.filter(Geometry::is_allowed) else {
+        return 0;
+    };
+    let at = 36 + t as usize * length(g);
+    let listed = memory.get(at..at + 4).map_or(0, number);
+    listed as u32
 }
 
 /// What text answers and leaves in an area of so many bytes: a refused one has

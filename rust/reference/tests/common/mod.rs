@@ -186,6 +186,10 @@ impl Table {
         reference::count(&self.memory, &self.flash, partition)
     }
 
+    pub fn drop_oldest(&mut self, partition: u32) -> Result<(), Refusal> {
+        reference::drop_oldest(&mut self.memory, &self.flash, partition)
+    }
+
     /// The partition's text, with room for any.
     pub fn text(&self, partition: u32) -> Result<String, Refusal> {
         // A line is at most 48 bytes long, for an entry of 16.
@@ -208,8 +212,18 @@ impl Table {
         word(self.head(t), 0)
     }
 
+    /// Sets F, and the live number to what so many flushes leave without a drop.
     pub fn set_flushes(&mut self, t: usize, number: u32) {
         set_word(self.head(t), 0, number);
+        self.set_live(t, number.min(self.g.kept));
+    }
+
+    pub fn live(&mut self, t: usize) -> u32 {
+        word(self.head(t), 12)
+    }
+
+    pub fn set_live(&mut self, t: usize, number: u32) {
+        set_word(self.head(t), 12, number);
     }
 
     pub fn listed(&mut self, t: usize) -> u32 {
@@ -265,11 +279,12 @@ impl Table {
         &mut self.flash[at..at + p]
     }
 
-    /// Has the partition done so many flushes, each of a buffer without entries:
-    /// the pages of its live batches are in order.
+    /// Has the partition done so many flushes, each of a buffer without entries,
+    /// and no drop: the pages of its live batches are in order.
     pub fn set_batches(&mut self, t: usize, flushes: u32) {
         self.set_flushes(t, flushes);
-        for (number, slot) in plain::live(self.g, flushes.into()) {
+        let live = self.live(t);
+        for (number, slot) in plain::live(self.g, flushes.into(), live.into()) {
             for q in 0..self.g.pages as usize {
                 let page = self.batch(t, slot, q);
                 page.fill(0);

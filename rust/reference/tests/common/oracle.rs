@@ -36,6 +36,7 @@ pub fn call_oracle(call: Call, memory: &mut [u8], flash: &mut [u8]) -> Answer {
             Call::View(t, q, n) => view(g, memory, flash, t, q, n),
             Call::Count(t) => count(g, memory, t),
             Call::Text(t, room) => text(g, memory, flash, t, room),
+            Call::Drop(t) => drop_oldest(g, memory, flash, t),
             Call::Format(_) => unreachable!(),
         }),
     };
@@ -57,7 +58,7 @@ fn format(g: Geometry, memory: &mut [u8], flash: &[u8]) -> Result<Answer, Answer
             flushes: 0,
             listed: 0,
             total: 0,
-            last: 0,
+            live: 0,
             list: vec![(0, 0); g.list as usize],
             filters: vec![vec![false; g.bits as usize]; g.kept as usize],
             buffer: (0..g.pages)
@@ -78,6 +79,27 @@ fn open(memory: &[u8], flash: &[u8]) -> Result<Geometry, Answer> {
     Ok(g)
 }
 
+/// The entries of a batch, by the heads of its pages: refusal 13.
+fn count_entries(g: Geometry, flash: &[u8], t: usize, batch: i128) -> Result<i128, Answer> {
+    let mut entries = 0;
+    for q in 0..g.pages as usize {
+        let at = flash_at(g, t, slot(g, batch), q);
+        let page = read_page(&flash[at..at + g.page as usize]);
+        if !expected(g, &page, t, q, batch) {
+            return Err(Answer::Refused(13, q as u32 + 1));
+        }
+        entries += i128::from(page.count);
+    }
+    Ok(entries)
+}
+
+/// Takes the keys stamped with a batch off the list.
+fn unlist_stamped(partition: &mut Partition, batch: i128) {
+    let stamped = |i: &usize| i128::from(partition.list[*i].1 as u32) == batch;
+    let places: Vec<usize> = (0..partition.listed as usize).filter(stamped).collect();
+    partition.listed = take_out(&mut partition.list, partition.listed, &places);
+}
+
 /// Refusals 16, 13 and the last 12 of a flush with so many entries appended
 /// after it: the total that the call ends with.
 fn judge_flush(
@@ -89,16 +111,9 @@ fn judge_flush(
 ) -> Result<i128, Answer> {
     check(partition.flushes < 4294967295, 16)?;
     let mut total = partition.total + appended;
-    let gone = partition.flushes + 1 - i128::from(g.kept);
-    if gone > 0 {
-        let slot = ((gone - 1) % i128::from(g.kept)) as usize;
-        for q in 0..g.pages as usize {
-            let page = read_page(&flash[flash_at(g, t, slot, q)..][..g.page as usize]);
-            if !expected(g, &page, t, q, gone) {
-                return Err(Answer::Refused(13, q as u32 + 1));
-            }
-            total -= i128::from(page.count);
-        }
+    let kept = i128::from(g.kept);
+    if partition.live == kept {
+        total -= count_entries(g, flash, t, partition.flushes + 1 - kept)?;
     }
     check(total_fits(g, total), 12)?;
     Ok(total)
@@ -107,7 +122,7 @@ fn judge_flush(
 /// The flush that has passed every check.
 fn write_batch(g: Geometry, partition: &mut Partition, flash: &mut [u8], t: usize) {
     let number = partition.flushes + 1;
-    let slot = ((number - 1) % i128::from(g.kept)) as usize;
+    let slot = slot(g, number);
     partition.filters[slot] = vec![false; g.bits as usize];
     for q in 0..g.pages as usize {
         let mut page = partition.buffer[q].clone();
@@ -120,11 +135,9 @@ fn write_batch(g: Geometry, partition: &mut Partition, flash: &mut [u8], t: usiz
         flash[flash_at(g, t, slot, q)..][..g.page as usize].copy_from_slice(&page_bytes(&page));
         partition.buffer[q] = empty_page(g, t as u64, q as u64);
     }
-    let gone = number - i128::from(g.kept);
-    let stamped = |i: &usize| i128::from(partition.list[*i].1 as u32) == gone;
-    let places: Vec<usize> = (0..partition.listed as usize).filter(stamped).collect();
-    partition.listed = take_out(&mut partition.list, partition.listed, &places);
+    unlist_stamped(partition, number - i128::from(g.kept));
     partition.flushes = number;
+    partition.live = (partition.live + 1).min(g.kept.into());
 }
 
 fn put(
@@ -235,6 +248,21 @@ fn count(g: Geometry, memory: &[u8], t: u32) -> Result<Answer, Answer> {
     Ok(Answer::Counted(partition.total as u32))
 }
 
+fn drop_oldest(g: Geometry, memory: &mut [u8], flash: &[u8], t: u32) -> Result<Answer, Answer> {
+    check(t < 1 << g.parts, 4)?;
+    let mut partition = read_partition(g, memory, t as usize);
+    check(head_fits(g, &partition), 12)?;
+    check(partition.live > 0, 23)?;
+    let oldest = partition.flushes - partition.live + 1;
+    partition.total -= count_entries(g, flash, t as usize, oldest)?;
+    check(total_fits(g, partition.total), 12)?;
+    partition.live -= 1;
+    let listed = partition.listed;
+    unlist_stamped(&mut partition, oldest);
+    write_partition(g, memory, t as usize, &partition);
+    Ok(Answer::Dropped((listed - partition.listed) as u32))
+}
+
 fn view(
     g: Geometry,
     memory: &[u8],
@@ -254,9 +282,8 @@ fn view(
     }
     let n = i128::from(n);
     let f = partition.flushes;
-    check(n <= f && n > f - f.min(g.kept.into()), 17)?;
-    let slot = ((n - 1) % i128::from(g.kept)) as usize;
-    let at = flash_at(g, t, slot, q);
+    check(n <= f && n > f - partition.live, 17)?;
+    let at = flash_at(g, t, slot(g, n), q);
     if expected(g, &read_page(&flash[at..at + size]), t, q, n) {
         Ok(Answer::InFlash(at, size))
     } else {
@@ -276,7 +303,7 @@ fn text_pages(
     let fit = partition.buffer.iter().all(|page| fits(g, page));
     check(head_fits(g, &partition) && fit, 12)?;
     let mut pages = Vec::new();
-    let mut batches: Vec<_> = live(g, partition.flushes).collect();
+    let mut batches: Vec<_> = live(g, partition.flushes, partition.live).collect();
     batches.reverse();
     for (number, slot) in batches {
         for q in 0..g.pages as usize {

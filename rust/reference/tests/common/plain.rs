@@ -18,7 +18,7 @@ pub struct Partition {
     pub flushes: i128,
     pub listed: u64,
     pub total: i128,
-    pub last: u64,
+    pub live: i128,
     pub list: Vec<(u64, u64)>,
     pub filters: Vec<Vec<bool>>,
     pub buffer: Vec<Page>,
@@ -91,7 +91,7 @@ pub fn read_partition(g: Geometry, memory: &[u8], t: usize) -> Partition {
         flushes: i128::from(number(&bytes[0..4])),
         listed: number(&bytes[4..8]),
         total: i128::from(number(&bytes[8..12])),
-        last: number(&bytes[12..16]),
+        live: i128::from(number(&bytes[12..16])),
         list: records(&bytes[16..filters_at]),
         filters: bytes[filters_at..buffer_at]
             .chunks(g.bits as usize / 8)
@@ -109,7 +109,7 @@ pub fn write_partition(g: Geometry, memory: &mut [u8], t: usize, partition: &Par
     push(&mut bytes, partition.flushes as u64, 4);
     push(&mut bytes, partition.listed, 4);
     push(&mut bytes, partition.total as u64, 4);
-    push(&mut bytes, partition.last, 4);
+    push(&mut bytes, partition.live as u64, 4);
     for &(key, rest) in &partition.list {
         push(&mut bytes, key, 8);
         push(&mut bytes, rest, 8);
@@ -186,22 +186,33 @@ pub fn total_fits(g: Geometry, total: i128) -> bool {
     (0..=i128::from(most_entries(g))).contains(&total)
 }
 
-/// Whether the head counts no more than fits.
-pub fn head_fits(g: Geometry, partition: &Partition) -> bool {
-    partition.listed <= g.list.into() && total_fits(g, partition.total)
+/// Whether so many batches may be live after so many flushes.
+pub fn live_fits(g: Geometry, flushes: i128, live: i128) -> bool {
+    live <= flushes && live <= g.kept.into()
 }
 
-/// The live batches after so many flushes, youngest first, with their slots.
-pub fn live(g: Geometry, f: i128) -> impl Iterator<Item = (i128, usize)> {
-    let live = f.min(g.kept.into());
-    (f - live + 1..=f)
+/// Whether the head counts no more than fits.
+pub fn head_fits(g: Geometry, partition: &Partition) -> bool {
+    partition.listed <= g.list.into()
+        && total_fits(g, partition.total)
+        && live_fits(g, partition.flushes, partition.live)
+}
+
+/// The slot of the batch with this number.
+pub fn slot(g: Geometry, number: i128) -> usize {
+    ((number - 1) % i128::from(g.kept)) as usize
+}
+
+/// The latest so many batches of so many flushes, youngest first, with their slots.
+pub fn live(g: Geometry, flushes: i128, live: i128) -> impl Iterator<Item = (i128, usize)> {
+    (flushes - live + 1..=flushes)
         .rev()
-        .map(move |n| (n, ((n - 1) % i128::from(g.kept)) as usize))
+        .map(move |number| (number, slot(g, number)))
 }
 
 /// The live batches whose filter passes, youngest first, with their slots.
 pub fn passing(g: Geometry, partition: &Partition, key: u64) -> Vec<(i128, usize)> {
-    live(g, partition.flushes)
+    live(g, partition.flushes, partition.live)
         .filter(|&(_, slot)| bits(g, key).iter().all(|&b| partition.filters[slot][b]))
         .collect()
 }
@@ -212,9 +223,9 @@ pub fn sum_of_counts(g: Geometry, memory: &[u8], flash: &[u8], t: usize) -> u64 
     let (pages, size) = (g.pages as usize, g.page as usize);
     let end = 32 + (t + 1) * length(g);
     let counts = |bytes: &[u8]| -> u64 { bytes.chunks(size).map(|page| number(&page[..2])).sum() };
-    let flushes = i128::from(number(&memory[end - length(g)..][..4]));
-    let batches =
-        live(g, flushes).map(|(_, slot)| &flash[flash_at(g, t, slot, 0)..][..pages * size]);
+    let head = &memory[end - length(g)..][..16];
+    let batches = live(g, number(&head[..4]).into(), number(&head[12..]).into());
+    let batches = batches.map(|(_, slot)| &flash[flash_at(g, t, slot, 0)..][..pages * size]);
     counts(&memory[end - pages * size..end]) + batches.map(counts).sum::<u64>()
 }
 

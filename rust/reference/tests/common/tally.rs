@@ -6,7 +6,7 @@ use std::fmt;
 use reference::Geometry;
 
 use super::call::{call_index, Answer, Call};
-use super::plain::{fits, read_partition, total_fits};
+use super::plain::{fits, live_fits, read_partition, total_fits};
 
 #[derive(Clone, Copy, Debug, PartialEq, Eq, PartialOrd, Ord)]
 pub enum Outcome {
@@ -25,63 +25,70 @@ pub enum Outcome {
     /// A text of at least one line.
     Lines,
     EmptyText,
+    /// A drop with which no key left the list.
+    Dropped,
+    /// A drop with which some key left the list.
+    Unlisted,
     Refused(u32),
     /// Refused with 12 for a total above what fits, and for nothing else.
     Overcounted,
+    /// Refused with 12 for a live number above K, and for nothing else.
+    AboveKept,
+    /// The same, above F but not above K.
+    AboveFlushes,
     /// Refused with 12 for the total at the call's end, above what fits.
     EndsAbove,
     /// The same, below 0.
     EndsBelow,
 }
 
+impl Outcome {
+    /// Whether it is a refusal with 12 that is told apart from the others.
+    pub fn is_overfull(self) -> bool {
+        HEAD.contains(&self) || matches!(self, EndsAbove | EndsBelow)
+    }
+}
+
 use Outcome::*;
 
-/// What each call may come to: accepted or refused for the total, and refused
-/// otherwise. A put of 0 is counted by what another value would have come to.
-const OUTCOMES: [(&str, &[Outcome], &[u32]); 9] = [
+/// What each call may come to: accepted, refused for the total at its end, and
+/// refused otherwise. A put of 0 is counted by what another value would have
+/// come to.
+const OUTCOMES: [(&str, &[Outcome], &[u32]); 10] = [
     ("format", &[Changed], &[1, 2, 3]),
     ("put", PUT, &[2, 3, 11, 12, 13, 16]),
     ("put of 0", PUT, &[2, 3, 11, 12, 13, 16]),
     (
         "get",
-        &[
-            FoundInBuffer,
-            FoundInBatch,
-            NoneAtOnce,
-            NoneRead,
-            Overcounted,
-        ],
+        &[FoundInBuffer, FoundInBatch, NoneAtOnce, NoneRead],
         &[2, 3, 11, 12, 13],
     ),
+    ("del", &[Changed, EndsBelow], &[2, 3, 11, 12, 14]),
+    ("flush", &[Wrote, EndsBelow], &[2, 3, 4, 11, 12, 13, 15, 16]),
+    ("view", &[InMemory, InFlash], &[2, 3, 4, 11, 12, 13, 17]),
+    ("count", &[Counted], &[2, 3, 4, 11, 12]),
+    ("text", &[Lines, EmptyText], &[2, 3, 4, 11, 12, 13, 22]),
     (
-        "del",
-        &[Changed, Overcounted, EndsBelow],
-        &[2, 3, 11, 12, 14],
-    ),
-    (
-        "flush",
-        &[Wrote, Overcounted, EndsBelow],
-        &[2, 3, 4, 11, 12, 13, 15, 16],
-    ),
-    (
-        "view",
-        &[InMemory, InFlash, Overcounted],
-        &[2, 3, 4, 11, 12, 13, 17],
-    ),
-    ("count", &[Counted, Overcounted], &[2, 3, 4, 11, 12]),
-    (
-        "text",
-        &[Lines, EmptyText, Overcounted],
-        &[2, 3, 4, 11, 12, 13, 22],
+        "drop",
+        &[Dropped, Unlisted, EndsBelow],
+        &[2, 3, 4, 11, 12, 13, 23],
     ),
 ];
 
-const PUT: &[Outcome] = &[Changed, Wrote, Overcounted, EndsAbove, EndsBelow];
+const PUT: &[Outcome] = &[Changed, Wrote, EndsAbove, EndsBelow];
+
+/// What every call that checks 12 may come to besides.
+const HEAD: [Outcome; 3] = [Overcounted, AboveKept, AboveFlushes];
 
 fn outcomes() -> impl Iterator<Item = (&'static str, Outcome)> {
     OUTCOMES.iter().flat_map(|&(call, outcomes, refused)| {
+        let head = if refused.contains(&12) {
+            &HEAD[..]
+        } else {
+            &[]
+        };
         let refused = refused.iter().map(|&number| Refused(number));
-        let all = outcomes.iter().copied().chain(refused);
+        let all = outcomes.iter().chain(head).copied().chain(refused);
         all.map(move |outcome| (call, outcome))
     })
 }
@@ -100,22 +107,31 @@ fn outcome(call: Call, answer: Answer, memory: &[u8]) -> Outcome {
         Answer::InFlash(..) => InFlash,
         Answer::Text(0, _) => EmptyText,
         Answer::Text(..) => Lines,
+        Answer::Dropped(0) => Dropped,
+        Answer::Dropped(_) => Unlisted,
         Answer::Refused(12, _) => overfull(call, memory),
         Answer::Refused(number, _) => Refused(number),
     }
 }
 
 /// Why the call was refused with 12. Where the list or some buffer page of the
-/// partition counts too much it is not told apart from the total.
+/// partition counts too much, or the head twice, it is not told apart.
 fn overfull(call: Call, memory: &[u8]) -> Outcome {
     let opening = memory.first_chunk().and_then(Geometry::from_opening);
     let g = opening.expect("12 comes behind 11");
     let t = call.partition(g).expect("12 is about a partition");
     let partition = read_partition(g, memory, t as usize);
-    if partition.listed > g.list.into() || !partition.buffer.iter().all(|page| fits(g, page)) {
+    let total = total_fits(g, partition.total);
+    let live = live_fits(g, partition.flushes, partition.live);
+    let listed = partition.listed <= g.list.into();
+    if !listed || !(total || live) || !partition.buffer.iter().all(|page| fits(g, page)) {
         Refused(12)
-    } else if !total_fits(g, partition.total) {
+    } else if !total {
         Overcounted
+    } else if !live && partition.live > g.kept.into() {
+        AboveKept
+    } else if !live {
+        AboveFlushes
     } else if !total_fits(g, partition.total + 1) {
         EndsAbove
     } else {
@@ -147,6 +163,7 @@ fn name(call: Call) -> &'static str {
         Call::View(..) => "view",
         Call::Count(_) => "count",
         Call::Text(..) => "text",
+        Call::Drop(_) => "drop",
     }
 }
 

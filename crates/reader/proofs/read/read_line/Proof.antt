@@ -5,7 +5,7 @@ use mathlib.Core.List.{List}
 use Rattle.figures.proofs.Steps.{known}
 use Rattle.reader.proofs.Forms.{first-call}
 use Rattle.reader.specs.Forms.{formCall}
-use Rattle.model.specs.Session.{putLine, getLine, delLine, flushLine, callOf}
+use Rattle.model.specs.Session.{putLine, getLine, delLine, flushLine, countLine, callOf}
 use mathlib.Core.Option.{none}
 use borrow.Author.Needs.{needs}
 use Rattle.reader.proofs.read.read_line.Statement.{statement}
@@ -26,6 +26,9 @@ no-del c = known formCall (c .before .before .read-del .ensures) (c .enum-told3 
 
 no-flush : (c : tie.After-enum-told4) → flushLine (line (c .before .before .before .before .before .before .before .before .before)) ≡ none
 no-flush c = known formCall (c .before .before .read-flush .ensures) (c .enum-told4 .given .1)
+
+no-count : (c : tie.After-enum-told5) → countLine (line (c .before .before .before .before .before .before .before .before .before .before .before .before)) ≡ none
+no-count c = known formCall (c .before .before .read-count .ensures) (c .enum-told5 .given .1)
 
 returns : tie.Need-returns
 unfolding callOf
@@ -52,9 +55,18 @@ returns-5 c =
 returns-6 : tie.Need-returns-6
 unfolding callOf
 returns-6 c =
-    let fourth = c .before .before .before .before in
+    let fifth = c .before .before in
+    let fourth = fifth .before .before .before in
     let third = fourth .before .before .before in
-    rw (no-put (third .before .before .before .before .before .before), no-get (third .before .before .before), no-del third, no-flush fourth, known formCall (c .before .before .before .read-count .ensures) (c .before .enum-told5 .given .1)) (c .read-format .ensures)
+    rw (no-put (third .before .before .before .before .before .before), no-get (third .before .before .before), no-del third, no-flush fourth, no-count fifth) (first-call (c .before .read-drop .result) _ (c .before .read-drop .ensures) (c .match6 .keys2))
+
+returns-7 : tie.Need-returns-7
+unfolding callOf
+returns-7 c =
+    let fifth = c .before .before .before .before in
+    let fourth = fifth .before .before .before in
+    let third = fourth .before .before .before in
+    rw (no-put (third .before .before .before .before .before .before), no-get (third .before .before .before), no-del third, no-flush fourth, no-count fifth, known formCall (c .before .before .before .read-drop .ensures) (c .before .enum-told6 .given .1)) (c .read-format .ensures)
 
 pub read-line-spec : {M : Type 1} → statement M
-read-line-spec = tie.close (tie.spec (λ c κs. search needs) (λ c. search needs) returns (λ c κs. search needs) (λ c. search needs) returns-2 (λ c κs. search needs) (λ c. search needs) returns-3 (λ c κs. search needs) (λ c. search needs) returns-4 (λ c κs. search needs) (λ c. search needs) returns-5 (λ c κs. search needs) returns-6)
+read-line-spec = tie.close (tie.spec (λ c κs. search needs) (λ c. search needs) returns (λ c κs. search needs) (λ c. search needs) returns-2 (λ c κs. search needs) (λ c. search needs) returns-3 (λ c κs. search needs) (λ c. search needs) returns-4 (λ c κs. search needs) (λ c. search needs) returns-5 (λ c κs. search needs) (λ c. search needs) returns-6 (λ c κs. search needs) returns-7)

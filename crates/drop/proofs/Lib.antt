@@ -1,0 +1,3 @@
+pub mod Dropping
+pub mod Deciding
+pub mod Calling
