@@ -45,10 +45,10 @@ failedHead g t p f = cond (pushesOut g (headOf p)) (failedPage g t f (oldest (he
 unfoldable pub leaving : Geometry → ℕ → List ℕ → List ℕ → ℕ
 leaving g t p f = cond (pushesOut g (headOf p)) (batchEntries g t f (oldest (headOf p))) 0
 
--- With a batch that goes the list entries go that are stamped with it: F + 1 − K in a flush, F + 1 − live in a drop.
+-- the list without the entries stamped F + 1 − back: with a flush, whether a batch goes or not, back is K; with a drop it is the live number
 unfoldable pub delisted : Geometry → ℕ → ℕ → ℕ → List ℕ → List ℕ
 delisted g back flushes listed p = within listAt (listSize g) (expired back flushes listed) p
 
--- how many they are
+-- how many leave so
 abbrev pub delistings : Geometry → ℕ → List ℕ → ℕ
 delistings g back p = listedOf p - unexpired back (flushesOf p) (listedOf p) (listOf g p)

@@ -28,6 +28,7 @@ dropChecks g t p f =
 unfoldable pub headDropped : Geometry → ℕ → List ℕ → Head
 headDropped g less p = totalledHead 0 less (unlistedHead (delistings g (liveOf p) p) (loweredHead (headOf p)))
 
+-- the partition with that head, and without the list entries stamped with that batch
 unfoldable pub dropped : Geometry → ℕ → List ℕ → List ℕ
 dropped g less p = withHead (headDropped g less p) (delisted g (liveOf p) (flushesOf p) (listedOf p) p)
 

@@ -75,7 +75,7 @@ bufferOf g p q = mid (bufferAt g q) (g .page) p
 abbrev pub slot : Geometry → ℕ → ℕ
 slot g n = (n - 1) % g .kept
 
--- Live are the latest so many batches as the live number says.
+-- Live are as many of the latest batches as the live number says.
 unfoldable pub isLive : Head → ℕ → Bool
 isLive h n = ltb (h .flushes - h .live) n && leb n (h .flushes)
 
