@@ -3,11 +3,11 @@ use mathlib.Core.Path.{refl}
 use Rattle.model.specs.Text.{figures, past, leading, numberFrom, figure}
 use Rattle.model.specs.Session.{putLine, getLine, delLine, flushLine, countLine, dropLine, formatLine, callOf, answerText, linePrints, lineLeaves, linesOf, zeroArea, linesPrint}
 use Rattle.model.proofs.Computing.{computing}
-use Rattle.cases.specs.Table.{drops, texts, writes, counts, rows, Agree, allFigures, session, formatting, changed, twoPut, written, writing, texted}
+use Rattle.cases.specs.Table.{drops, texts, writes, counts, rows, Agree, allFigures, session, formatting, changed, twoPut, allWithLive, written, writing, texted}
 
 -- what a row opens: the calls, the session's text and the table's own words
 unfoldable opened : Type 0
-unfolding computing Agree allFigures session formatting changed twoPut written writing texted figures past leading numberFrom figure putLine getLine delLine flushLine countLine dropLine formatLine callOf answerText linePrints lineLeaves linesOf zeroArea linesPrint
+unfolding computing Agree allFigures session formatting changed allWithLive twoPut written writing texted figures past leading numberFrom figure putLine getLine delLine flushLine countLine dropLine formatLine callOf answerText linePrints lineLeaves linesOf zeroArea linesPrint
 opened = Unit {0}
 
 drops-agree : Agree drops

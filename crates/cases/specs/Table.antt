@@ -92,6 +92,12 @@ withTotal n = changed (write 4 n 40) (λ f. f)
 abbrev pub withLive : ℕ → List Call → Call → List ℕ
 withLive n = changed (write 4 n 44) (λ f. f)
 
+-- the same for a list of calls
+unfoldable pub allWithLive : ℕ → List Call → List Call → List (List ℕ)
+allWithLive n cs ds =
+    let a : Areas = run (areas 144 128) (format G ∷ cs) in
+    allFigures (replies (record { memory = write 4 n 44 (a .memory); flash = a .flash }) ds)
+
 -- memory's partition 0 after a format with G and two puts, changed so
 unfoldable pub twoPut : (List ℕ → List ℕ) → List ℕ
 twoPut memory = partition G 0 (memory (run (areas 144 128) (format G ∷ put 1 10 ∷ put 2 20 ∷ []) .memory))
@@ -144,9 +150,12 @@ counting = "(format (parts 0) (page 64) (pages 1) (kept 2) (bits 64) (hashes 3) 
 abbrev pub counted : String
 counted = "(ok 0)\n(ok 0)\n(ok 0)\n(ok 0)\n(ok 1)\n(ok 0)\n(ok 5)\n"
 
--- batch 1 of two entries and batch 2 of one, as many batches as G keeps; and so many keys in the buffer beside them
+-- batch 1 of two entries and batch 2 of one, as many batches as G keeps, with their answers; and so many keys in the buffer beside them
 abbrev pub batches : List Call
 batches = put 1 10 ∷ put 2 20 ∷ flush 0 ∷ put 3 30 ∷ flush 0 ∷ []
+
+abbrev pub batched : List (List ℕ)
+batched = ok 0 ∷ ok 0 ∷ ok 1 ∷ ok 0 ∷ ok 1 ∷ []
 
 abbrev pub filled : List Call
 filled = batches ++ (put 4 40 ∷ put 5 50 ∷ put 6 60 ∷ [])
@@ -160,10 +169,6 @@ dropping = "(format (parts 0) (page 64) (pages 1) (kept 2) (bits 64) (hashes 3) 
 
 abbrev pub dropped : String
 dropped = "(ok 0)\n(refused 23 0)\n(ok 0)\n(ok 1)\n(found 10 1)\n(ok 0)\n(none 0)\n(refused 4 0)\n(bad)\n"
-
--- how many keys are listed after a format with G and these calls
-abbrev pub listedAfter : List Call → ℕ
-listedAfter cs = listedOf (partitionIn (run (areas 144 128) (format G ∷ cs)) 0)
 
 pub record Row : Type 0 where
   pub given : List (List ℕ)
@@ -191,20 +196,20 @@ unfoldable pub drops : List Row
 drops =
     -- a drop takes batch 1 with its two entries, then batch 2, and then there is none
     answers (session (batches ++ (drop 0 ∷ get 1 ∷ get 3 ∷ count 0 ∷ drop 0 ∷ get 3 ∷ count 0 ∷ drop 0 ∷ [])))
-    (ok 0 ∷ ok 0 ∷ ok 0 ∷ ok 1 ∷ ok 0 ∷ ok 1 ∷ ok 0 ∷ noneWith 0 ∷ foundWith 30 1 ∷ ok 1 ∷ ok 0 ∷ noneWith 0 ∷ ok 0 ∷ refusedWith 23 0 ∷ [])
+    (ok 0 ∷ batched ++ (ok 0 ∷ noneWith 0 ∷ foundWith 30 1 ∷ ok 1 ∷ ok 0 ∷ noneWith 0 ∷ ok 0 ∷ refusedWith 23 0 ∷ []))
     -- in a session of its own
     ∷ answers (linesPrint (linesOf (text dropping)) (areas 144 128) ∷ []) (text dropped ∷ [])
     -- the next flush pushes nothing out, reads no head, and lets batch 2 live on; the one after it pushes batch 2 out
     ∷ answers (session (lowered ++ (put 4 40 ∷ flush 0 ∷ get 3 ∷ count 0 ∷ put 5 50 ∷ flush 0 ∷ get 3 ∷ count 0 ∷ [])))
-    (ok 0 ∷ ok 0 ∷ ok 0 ∷ ok 1 ∷ ok 0 ∷ ok 1 ∷ ok 0 ∷ ok 0 ∷ ok 1 ∷ foundWith 30 1 ∷ ok 2 ∷ ok 0 ∷ ok 1 ∷ noneWith 0 ∷ ok 2 ∷ [])
+    (ok 0 ∷ batched ++ (ok 0 ∷ ok 0 ∷ ok 1 ∷ foundWith 30 1 ∷ ok 2 ∷ ok 0 ∷ ok 1 ∷ noneWith 0 ∷ ok 2 ∷ []))
     ∷ answers (changed (λ m. m) (write 2 4 0) (lowered ++ (put 4 40 ∷ [])) (flush 0) ∷ changed (λ m. m) (write 2 4 0) (batches ++ (put 4 40 ∷ [])) (flush 0) ∷ []) (ok 1 ∷ refusedWith 13 1 ∷ [])
-    -- a list entry stamped with batch 1 leaves with it, and one stamped with batch 2 stays; what only batch 1 held is not listed any more
-    ∷ numbers (listedAfter (batches ++ (del 1 ∷ [])) ∷ listedAfter (batches ++ (del 1 ∷ drop 0 ∷ [])) ∷ listedAfter (batches ++ (del 3 ∷ drop 0 ∷ [])) ∷ listedAfter (lowered ++ (del 1 ∷ [])) ∷ [])
-    (1 ∷ 0 ∷ 1 ∷ 0 ∷ [])
+    -- a list entry stamped with batch 1 leaves with it, and its place is free; one stamped with batch 2 stays; what only batch 1 held is not listed any more
+    ∷ answers (session (batches ++ (del 1 ∷ del 3 ∷ drop 0 ∷ del 3 ∷ [])) ++ session (batches ++ (del 3 ∷ drop 0 ∷ get 3 ∷ [])) ++ session (lowered ++ (del 1 ∷ del 3 ∷ [])))
+    (ok 0 ∷ batched ++ (ok 0 ∷ refusedWith 14 0 ∷ ok 0 ∷ ok 0 ∷ ok 0 ∷ []) ++ batched ++ (ok 0 ∷ ok 0 ∷ noneWith 0 ∷ ok 0 ∷ []) ++ batched ++ (ok 0 ∷ ok 0 ∷ ok 0 ∷ []))
     -- the dropped batch is not shown, and not in the text
     ∷ answers (changed (λ m. m) (λ f. f) lowered (view 0 0 1) ∷ texted (λ m. m) (λ f. f) lowered 0 11) (refusedWith 17 0 ∷ ok 11 ∷ text "(put 3 30)\n" ∷ [])
-    -- 12: a live number above K, and one above F, before 23
-    ∷ answers (withLive 3 (batches ++ (put 4 40 ∷ flush 0 ∷ [])) (drop 0) ∷ withLive 3 batches (get 1) ∷ withLive 3 batches (put 4 40) ∷ withLive 3 batches (del 1) ∷ withLive 3 (batches ++ (put 4 40 ∷ [])) (flush 0) ∷ withLive 3 batches (view 0 0 1) ∷ withLive 3 batches (count 0) ∷ withLive 3 batches (Call.text 0 99) ∷ withLive 1 [] (drop 0) ∷ changed (write 4 2 36) (λ f. f) [] (drop 0) ∷ [])
+    -- 12 in every call: a live number of 3, above K; and one above F, and a list overfull, before 23
+    ∷ answers (allWithLive 3 (batches ++ (put 4 40 ∷ flush 0 ∷ [])) (drop 0 ∷ get 1 ∷ put 4 40 ∷ del 1 ∷ flush 0 ∷ view 0 0 1 ∷ count 0 ∷ Call.text 0 99 ∷ []) ++ (withLive 1 [] (drop 0) ∷ changed (write 4 2 36) (λ f. f) [] (drop 0) ∷ []))
     (refusedWith 12 0 ∷ refusedWith 12 0 ∷ refusedWith 12 0 ∷ refusedWith 12 0 ∷ refusedWith 12 0 ∷ refusedWith 12 0 ∷ refusedWith 12 0 ∷ refusedWith 12 0 ∷ refusedWith 12 0 ∷ refusedWith 12 0 ∷ [])
     -- 13 for a head of the batch that goes, and for no other page; 12 where the total does not count its two entries; a buffer page is not read
     ∷ answers (changed (λ m. m) (write 2 4 0) batches (drop 0) ∷ changed (λ m. m) (write 2 4 64) batches (drop 0) ∷ withTotal 1 batches (drop 0) ∷ changed (write 2 4 80) (λ f. f) batches (drop 0) ∷ [])
@@ -249,7 +254,7 @@ unfoldable pub counts : List Row
 counts =
     -- the total after the worked session, and in a session of its own
     numbers (changed (λ m. m) (λ f. f) worked (count 0)) (ok 4)
-    ∷ answers (linesPrint (linesOf (text counting)) programAreas ∷ []) (text counted ∷ [])
+    ∷ answers (linesPrint (linesOf (text counting)) (areas 144 128) ∷ []) (text counted ∷ [])
     -- a key appended counts, and one deleted from the buffer counts no more; a value replaced, a key flushed and a key listed change nothing
     ∷ answers (session (put 1 10 ∷ count 0 ∷ put 1 11 ∷ count 0 ∷ put 2 20 ∷ count 0 ∷ del 1 ∷ count 0 ∷ flush 0 ∷ count 0 ∷ del 2 ∷ count 0 ∷ count 1 ∷ []))
     (ok 0 ∷ ok 0 ∷ ok 1 ∷ ok 0 ∷ ok 1 ∷ ok 0 ∷ ok 2 ∷ ok 0 ∷ ok 1 ∷ ok 1 ∷ ok 1 ∷ ok 0 ∷ ok 1 ∷ refusedWith 4 0 ∷ [])
