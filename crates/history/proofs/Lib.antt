@@ -32,8 +32,6 @@ pub mod Counts
 pub mod Exact
 pub mod Refusing
 pub mod Lasting
-pub mod OldFault
-pub mod Samples
 pub mod TextRoom
 pub mod TextLines
 pub mod LineReading

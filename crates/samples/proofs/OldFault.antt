@@ -58,8 +58,8 @@ pub drop-fault :
     ≡ absent (tally 0) ∷ done 0 ∷ found 11 (tally 0) buffer ∷ done 1 ∷ found 11 (tally 1) (batch 3) ∷ found 20 (tally 1) (batch 2) ∷ done 0 ∷ done 0 ∷ done 1 ∷ [])
     × (passing G 1 (partitionIn edge 0) ≡ 3 ∷ [])
     × (searched 1 (batchPage G 0 (edge .flash) 3 0) ≡ some 1)
-    × (replies edge (get 1 ∷ del 40 ∷ put 60 50 ∷ flush 0 ∷ get 1 ∷ del 40 ∷ get 40 ∷ [])
-    ≡ absent (tally 0) ∷ refused 14 0 ∷ done 0 ∷ done 1 ∷ absent (tally 0) ∷ done 0 ∷ absent (tally 0) ∷ [])
+    × (replies edge (del 40 ∷ get 1 ∷ put 60 50 ∷ flush 0 ∷ get 1 ∷ del 40 ∷ get 40 ∷ [])
+    ≡ refused 14 0 ∷ absent (tally 0) ∷ done 0 ∷ done 1 ∷ absent (tally 0) ∷ done 0 ∷ absent (tally 0) ∷ [])
     × (replies edge (drop 0 ∷ get 1 ∷ del 40 ∷ get 40 ∷ drop 0 ∷ drop 0 ∷ [])
     ≡ done 0 ∷ absent (tally 0) ∷ done 0 ∷ absent (tally 0) ∷ done 0 ∷ refused 23 0 ∷ [])
 unfolding computing

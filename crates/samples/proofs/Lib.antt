@@ -1,0 +1,2 @@
+pub mod OldFault
+pub mod Histories
