@@ -1,12 +1,11 @@
 // The drop: decided from one partition, and as a call on whole areas.
-ghost use mathlib.Core.Bool.{true, false};
+ghost use mathlib.Core.Bool.{true};
 ghost use mathlib.Core.Path.{_≡_};
 ghost use Prim.Native.Nat.{_≤_, _<_};
 ghost use lib.ListN.{length};
 ghost use Rattle.model.specs.Bytes.{within};
 ghost use Rattle.model.specs.Geometry.{allowed, partitions, stride, partitionAt, memoryNeed, flashNeed};
-ghost use Rattle.model.specs.Partition.{headOf, totalOf, liveOf, partition};
-ghost use Rattle.model.specs.Refusals.{headOverfull};
+ghost use Rattle.model.specs.Partition.{partition};
 ghost use Rattle.model.specs.Drop.{dropped};
 ghost use Rattle.model.specs.Calls.{Call};
 ghost use Rattle.partition.specs.Ready.{Whole};

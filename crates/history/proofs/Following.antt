@@ -9,7 +9,7 @@ use Rattle.model.specs.Search.{isSome}
 use Rattle.model.specs.Keys.{partitionOf, pageOf}
 use Rattle.model.specs.Page.{searched, expected}
 use Rattle.model.specs.DeleteList.{listedAt}
-use Rattle.model.specs.Partition.{headOf, flushesOf, listedOf, listOf, liveOf, bufferOf, passingFrom, passing}
+use Rattle.model.specs.Partition.{flushesOf, listedOf, listOf, liveOf, bufferOf, passingFrom, passing}
 use Rattle.model.specs.Answers.{Areas, Refusal, Answer, refused, buffer, batch}
 use Rattle.model.specs.Batch.{batchPage}
 use Rattle.model.specs.Get.{hitIn, readThrough, sought}

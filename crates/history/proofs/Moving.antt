@@ -15,7 +15,7 @@ use Rattle.model.specs.Partition.{partition, flushesOf, liveOf}
 use Rattle.model.specs.Answers.{Areas, Tally, Place, Answer, done, found, absent, shown, refused}
 use Rattle.model.specs.Get.{sought}
 use Rattle.model.specs.PartitionText.{partitionText}
-use Rattle.model.specs.Calls.{format, get, text, geometryIn, partitionIn, reply, after, run}
+use Rattle.model.specs.Calls.{format, get, text, reply, after, run}
 use Rattle.model.specs.Session.{linesOf, linesLeave}
 use Rattle.model.proofs.Sizes.{page-of-lt}
 use Rattle.model.proofs.Calls.{result-format, result-text, reply-accepted}

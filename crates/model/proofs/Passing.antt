@@ -13,7 +13,7 @@ use Rattle.model.specs.declared.Geometry.{Geometry}
 use Rattle.model.specs.Search.{firstFrom, anyFrom}
 use Rattle.model.specs.Keys.{mixed, bitOf}
 use Rattle.model.specs.Filter.{passes}
-use Rattle.model.specs.Partition.{headOf, flushesOf, liveOf, slot, slotBits, batchPasses, passingFrom, passing}
+use Rattle.model.specs.Partition.{flushesOf, liveOf, slot, slotBits, batchPasses, passingFrom, passing}
 use Rattle.model.proofs.Tests.{either}
 use Rattle.model.proofs.Tables.{Entry, find, any, all, anyBelow, bitsBelow, bitsOf, hasBit, passesIn}
 

@@ -1,6 +1,6 @@
 -- From what was read of the batch that a flush pushes out to what the flush does.
 use Prim.Native.Nat.{ℕ, _+_, _-_, _≤_, _<_}
-use mathlib.Core.Bool.{Bool, true, false}
+use mathlib.Core.Bool.{true, false}
 use mathlib.Core.List.{List}
 use mathlib.Core.Option.{Option, none, some}
 use mathlib.Core.Path.{_≡_, refl, sym, _∙_, ap}
@@ -13,7 +13,6 @@ use Rattle.model.specs.Batch.{pushesOut, failedHead, leaving}
 use Rattle.model.specs.Answers.{unread}
 use Rattle.model.specs.Refusals.{refuseIf, refuseHead, totalOut, lastFlush}
 use Rattle.model.specs.Answers as model
-use Rattle.model.specs.Flush.{dueChecks}
 use Rattle.model.proofs.Checks.{due-16, due-read}
 use Rattle.answers.specs.declared.Refusal.{Refusal}
 use Rattle.answers.specs.Told.{asRefusal, ofRefusal}

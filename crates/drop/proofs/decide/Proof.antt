@@ -1,6 +1,6 @@
 -- Each test is the definition's, in its order; the heads are those of the oldest live batch.
 use Prim.Native.Nat.{_+_, _-_}
-use mathlib.Core.Bool.{true, false}
+use mathlib.Core.Bool.{false}
 use mathlib.Core.Path.{_≡_, sym, _∙_, ap}
 use native.Mathlib.Omega.{arith}
 use borrow.Author.Needs.{needs}

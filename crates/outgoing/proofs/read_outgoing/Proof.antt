@@ -1,6 +1,6 @@
 -- The head tells whether K batches are live; then the oldest leaves.
 use Prim.Native.Nat.{_≤_}
-use mathlib.Core.Path.{_≡_, _∙_, ap}
+use mathlib.Core.Path.{_≡_, _∙_}
 use native.Mathlib.Omega.{arith}
 use Rattle.model.specs.Partition.{headOf, liveOf}
 use Rattle.model.proofs.Heads.{HeadFits, head-fits}

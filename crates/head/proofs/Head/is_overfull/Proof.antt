@@ -1,5 +1,5 @@
 -- The tests are the definition's, of one number each.
-use mathlib.Core.Path.{sym, _∙_}
+use mathlib.Core.Path.{sym}
 use borrow.Author.Needs.{needs}
 use Rattle.model.proofs.Heads.{overfull-tests}
 use Rattle.head.proofs.Head.is_overfull.Statement.{statement}
