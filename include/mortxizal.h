@@ -140,9 +140,9 @@ enum {
  * 0 are refused with 12.
  *
  * So has a table that was filled while partitions had no number of live batches:
- * that number is 0 where it should not be, and nothing in its bytes tells so
- * either. mx_get finds no key of its batches, and mx_count goes on counting their
- * entries, so that later puts may be refused with 12.
+ * that number is 0 where it should not be, and no call tells so. mx_get finds no
+ * key of its batches, and mx_count goes on counting their entries, so that later
+ * puts may be refused with 12.
  *
  * Answers MX_DONE, or refuses with 1, 2 or 3.
  */

@@ -98,8 +98,8 @@ impl<'a> Index<'a> {
     /// they hold none, or a damaged one, its calls are refused.
     ///
     /// A table that was filled before its partitions had a number of live batches
-    /// has to be formatted anew. That number is 0 in it, and nothing in its bytes
-    /// tells so: no key of its batches is found.
+    /// has to be formatted anew. That number is 0 in it, and no call tells so: no
+    /// key of its batches is found.
     ///
     /// ```
     /// use mortxizal::{Index, Refused};
