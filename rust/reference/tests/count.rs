@@ -5,8 +5,8 @@ mod common;
 
 use common::call::{call_index, Answer, Call};
 use common::plain::sum_of_counts;
-use common::{set_word, Table, G, PAGE_1, WIDE};
-use reference::{Geometry, Refusal};
+use common::{set_word, Table, CALLS, G, PAGE_1, WIDE};
+use reference::Geometry;
 
 /// One partition of four pages, two batches.
 const FOUR: Geometry = Geometry::new([0, 64, 4, 2, 64, 3, 2]);
@@ -119,24 +119,11 @@ fn count_tells_the_head_and_reads_no_page() {
 
 #[test]
 fn refusal_12_for_the_total_in_every_call() {
-    type Made = fn(&mut Table) -> Result<(), Refusal>;
-    let calls: [Made; 10] = [
-        |t| t.get(1).map(drop),
-        |t| t.get(KEYS[0]).map(drop),
-        |t| t.put(KEYS[0], 2).map(drop),
-        |t| t.del(KEYS[0]),
-        |t| t.flush(0).map(drop),
-        |t| t.view(0, 0, 0).map(drop),
-        |t| t.view(0, 0, 1).map(drop),
-        |t| t.count(0).map(drop),
-        |t| t.text(0).map(drop),
-        |t| t.drop_oldest(0),
-    ];
     let mut table = Table::new(WIDE);
     table.put(KEYS[1], 1).unwrap();
     table.flush(0).unwrap();
     table.put(KEYS[0], 1).unwrap();
-    for (place, call) in calls.iter().enumerate() {
+    for (place, call) in CALLS.iter().enumerate() {
         table.set_total(0, MOST);
         assert_eq!(call(&mut table.clone()), Ok(()), "call {place}");
         for total in [MOST + 1, 1 << 31, u32::MAX] {

@@ -3,8 +3,8 @@
 
 mod common;
 
-use common::{none, set_word, Table, PAGE_1, WIDE};
-use reference::{Geometry, Refusal};
+use common::{none, set_word, Table, CALLS, PAGE_1, WIDE};
+use reference::Geometry;
 
 /// One partition of one page, three batches, six list places.
 const LISTS: Geometry = Geometry::new([0, 64, 1, 3, 1024, 8, 6]);
@@ -96,26 +96,13 @@ fn refusal_12_where_a_drop_would_end_below_0() {
 
 #[test]
 fn refusal_12_for_the_live_number_in_every_call() {
-    type Made = fn(&mut Table) -> Result<(), Refusal>;
-    let calls: [Made; 10] = [
-        |t| t.get(1).map(drop),
-        |t| t.get(PAGE_1).map(drop),
-        |t| t.put(PAGE_1, 2).map(drop),
-        |t| t.del(PAGE_1),
-        |t| t.flush(0).map(drop),
-        |t| t.view(0, 0, 0).map(drop),
-        |t| t.view(0, 0, 1).map(drop),
-        |t| t.count(0).map(drop),
-        |t| t.text(0).map(drop),
-        |t| t.drop_oldest(0),
-    ];
     // K is 3: above F, above both, and above K.
     for (flushes, outside) in [(1, [2, 3, 4]), (3, [4, 5, 1 << 31]), (9, [4, 9, u32::MAX])] {
         let mut table = Table::new(WIDE);
         table.set_batches(0, flushes);
         table.fill_buffer(0, 1, &[(PAGE_1, 1)]);
         table.recount(0);
-        for (place, call) in calls.iter().enumerate() {
+        for (place, call) in CALLS.iter().enumerate() {
             for live in outside {
                 let mut damaged = table.clone();
                 damaged.set_live(0, live);

@@ -2,23 +2,8 @@
 
 mod common;
 
-use common::{found, none, refused, set_word, Table, G, PAGE_1, WIDE};
-use reference::{format, Geometry, Refusal};
-
-type Call = fn(&mut Table) -> Result<(), Refusal>;
-
-/// Every call but format, with arguments that are in range.
-const CALLS: [Call; 9] = [
-    |t| t.put(PAGE_1, 1).map(drop),
-    |t| t.get(PAGE_1).map(drop),
-    |t| t.del(PAGE_1),
-    |t| t.flush(0).map(drop),
-    |t| t.view(0, 0, 0).map(drop),
-    |t| t.view(0, 0, 1).map(drop),
-    |t| t.count(0).map(drop),
-    |t| t.text(0).map(drop),
-    |t| t.drop_oldest(0),
-];
+use common::{found, none, refused, set_word, Table, CALLS, G, PAGE_1, WIDE};
+use reference::{format, Geometry};
 
 /// Every call but format is refused with the number and 0 reads.
 fn all_refuse(table: &Table, number: u32) {

@@ -19,6 +19,23 @@ pub const WIDE: Geometry = Geometry::new([1, 64, 2, 3, 64, 2, 3]);
 /// that have no say in the page, so a smaller key belongs to page 0.
 pub const PAGE_1: u64 = 1 << 18;
 
+/// A call, told only as accepted or refused.
+pub type Made = fn(&mut Table) -> Result<(), Refusal>;
+
+/// Every call but format, of partition 0, with arguments that are in range.
+pub const CALLS: [Made; 10] = [
+    |t| t.put(PAGE_1, 2).map(drop),
+    |t| t.get(1).map(drop),
+    |t| t.get(PAGE_1).map(drop),
+    |t| t.del(PAGE_1),
+    |t| t.flush(0).map(drop),
+    |t| t.view(0, 0, 0).map(drop),
+    |t| t.view(0, 0, 1).map(drop),
+    |t| t.count(0).map(drop),
+    |t| t.text(0).map(drop),
+    |t| t.drop_oldest(0),
+];
+
 /// Splitmix: every run of the tests draws the same numbers.
 pub struct Rng(pub u64);
 
