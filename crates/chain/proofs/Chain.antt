@@ -10,20 +10,20 @@ use Rattle.history.specs.Moving.{AllMove, TextMoves}
 use Rattle.history.proofs.Demand.{demand3}
 use Rattle.history.proofs.Counting.{counts-held}
 use Rattle.history.proofs.Moving.{text-moves}
-use Rattle.answers.specs.Performs.{areas}
-use Rattle.chain.specs.Chain.{Performed, none, next, heardOf, CallsKeepDemand3}
+use Rattle.answers.specs.Performs.{areas, Performs}
+use Rattle.chain.specs.Chain.{Made, none, next, heardOf, CallsKeepDemand3}
 
-chain-answers : {cs : List Call} {m f m′ f′ : List ℕ} {rs : List Answer} → Performed cs m f rs m′ f′ → rs ≡ replies (areas m f) cs
+chain-answers : {cs : List Call} {m f m′ f′ : List ℕ} {rs : List Answer} → Made Performs cs m f rs m′ f′ → rs ≡ replies (areas m f) cs
 unfolding replies
 chain-answers none = refl
 chain-answers (next {cs = cs} p ps) = ap₂ _∷_ (p .answers) (chain-answers ps ∙ ap (λ a. replies a cs) (p .leaves))
 
-chain-leaves : {cs : List Call} {m f m′ f′ : List ℕ} {rs : List Answer} → Performed cs m f rs m′ f′ → areas m′ f′ ≡ run (areas m f) cs
+chain-leaves : {cs : List Call} {m f m′ f′ : List ℕ} {rs : List Answer} → Made Performs cs m f rs m′ f′ → areas m′ f′ ≡ run (areas m f) cs
 unfolding run
 chain-leaves none = refl
 chain-leaves (next {cs = cs} p ps) = chain-leaves ps ∙ ap (λ a. run a cs) (p .leaves)
 
-heard-events : (cs : List Call) (a : Areas) → heardOf cs (replies a cs) ≡ events a cs
+heard-events : (cs : List Call) (a : Areas) → heardOf heard cs (replies a cs) ≡ events a cs
 unfolding heardOf replies events
 heard-events [] a = refl
 heard-events (c ∷ cs) a = ap (λ es. heard c (reply a c) ∷ es) (heard-events cs (after a c))
@@ -39,12 +39,13 @@ unfolding CallsKeepDemand3 Demand3 CountsHeld TextMoves
 calls-keep-demand3 m f m′ f′ h g cs r rs (next p ps) accepted fits =
     let told = chain-answers (next p ps) in
     let left = chain-leaves (next p ps) in
-    let hears = ap (heardOf (format g ∷ cs)) told ∙ heard-events (format g ∷ cs) (areas m f) in
-    let opened = sym (ap isRefused (p .answers)) ∙ accepted in
-    record {
-      answers = told;
-      leaves = left;
-      holds = rw (left, hears) (demand3 (areas m f) h g opened cs fits);
-      counts = same-counts left (ap (remember h) hears) (counts-held (areas m f) h g opened cs fits);
-      moves = same-moves left (ap (remember h) hears) (text-moves (areas m f) h g opened cs fits);
-    }
+    let hears = ap (remember h) (ap (heardOf heard (format g ∷ cs)) told ∙ heard-events (format g ∷ cs) (areas m f)) in
+    let opened = sym (ap isRefused (p .answers)) ∙ accepted in (
+      told,
+      record {
+        leaves = left;
+        holds = rw (left, hears) (demand3 (areas m f) h g opened cs fits);
+        counts = same-counts left hears (counts-held (areas m f) h g opened cs fits);
+        moves = same-moves left hears (text-moves (areas m f) h g opened cs fits);
+      },
+    )

@@ -1,6 +1,7 @@
 -- An answer as the C interface gives it: one struct for all calls.
 use Prim.Native.Nat.{ℕ, _<_, _^_}
 use Rattle.model.specs.Answers.{Place, buffer, batch, Stretch, inMemory, inFlash, Answer, done, found, absent, shown, refused}
+use Rattle.model.specs.Calls.{Call, format, put, get, del, flush, view, count, text, drop}
 use Rattle.answers.specs.declared.Viewed.{Viewed}
 use Rattle.exported.specs.declared.MxAnswer.{MxAnswer}
 
@@ -32,6 +33,18 @@ exportedText (found value cost place) = exported (found value cost place)
 exportedText (absent cost) = exported (absent cost)
 exportedText (refused number reads) = exported (refused number reads)
 exportedText (shown s) = exported (shown s)
+
+-- of a call's answer
+abbrev pub exportedBy : Call → Answer → MxAnswer
+exportedBy (format g) x = exported x
+exportedBy (put k v) x = exported x
+exportedBy (get k) x = exported x
+exportedBy (del k) x = exported x
+exportedBy (flush t) x = exported x
+exportedBy (view t q n) x = exported x
+exportedBy (count t) x = exported x
+exportedBy (text t room) x = exportedText x
+exportedBy (drop t) x = exported x
 
 -- the bytes of a page are a 32-bit number
 abbrev pub SizeFits : Viewed → Type 0

@@ -22,11 +22,11 @@ use Rattle.answers.specs.declared.Viewed.{Viewed}
 use Rattle.answers.specs.Told.{viewed}
 use Rattle.answers.specs.Performs.{areas, Performs}
 use Rattle.exported.specs.declared.MxAnswer.{MxAnswer}
-use Rattle.exported.specs.Exported.{exported, SizeFits}
+use Rattle.exported.specs.Exported.{exportedBy, SizeFits}
 use Rattle.mortxizal.specs.Exports.{Exports}
 
-pub exporting : (c : Call) (m f : List ℕ) (r : Answer) (m′ f′ : List ℕ) (x : MxAnswer) → Performs c m f r m′ f′ → x ≡ exported r → Exports c m f x m′ f′
-exporting c m f r m′ f′ x p e = record { answers = e ∙ ap exported (p .answers); leaves = p .leaves }
+pub exporting : (c : Call) (m f : List ℕ) (r : Answer) (m′ f′ : List ℕ) (x : MxAnswer) → Performs c m f r m′ f′ → x ≡ exportedBy c r → Exports c m f x m′ f′
+exporting c m f r m′ f′ x p e = record { answers = e ∙ ap (exportedBy c) (p .answers); leaves = p .leaves }
 
 -- what an answer shows has fewer than 2 ^ 32 bytes
 abbrev Fits : Answer → Type 0
