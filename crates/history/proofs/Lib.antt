@@ -40,3 +40,5 @@ pub mod ReplayState
 pub mod ReplayLine
 pub mod ReplayText
 pub mod Moving
+pub mod Putting
+pub mod Telling

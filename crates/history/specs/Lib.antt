@@ -2,3 +2,4 @@ pub mod History
 pub mod Reads
 pub mod Claim
 pub mod Moving
+pub mod Telling

@@ -352,6 +352,16 @@ module _ (g : Geometry) (t room : ℕ) (p f : List ℕ) where
         unfolding textChecks
         text-room e = rw (lt-ltb t (partitions g) below, head, pages, e)
 
+  pub text-accepted : textChecks g t room p f ≡ none
+      → (t < partitions g) × (headOverfull g (headOf p) ≡ false) × (somePageOverfull g p ≡ false) × (someBatchFails g t p f ≡ false)
+  unfolding textChecks
+  text-accepted e =
+      let one = refuse-none (not (ltb t (partitions g))) 4 _ e in
+      let two = refuse-none (headOverfull g (headOf p)) 12 _ (one .1) in
+      let three = refuse-none (somePageOverfull g p) 12 _ (two .1) in
+      let four = refuse-none (someBatchFails g t p f) 13 _ (three .1) in
+      (ltb-true t (partitions g) (not-false _ (one .0)), two .0, three .0, four .0)
+
 -- ---- view: 4, 12, 17
 module _ (g : Geometry) (t q n : ℕ) (p : List ℕ) where
   pub view-4 : not (ltb t (partitions g)) || not (ltb q (g .pages)) ≡ true → viewChecks g t q n p ≡ some (unread 4)

@@ -1,6 +1,6 @@
 -- Texts joined one behind another: one text more, and their lengths; so those of pages, sources and partitions.
 use mathlib.Core.Bool.{true, false}
-use mathlib.Core.List.{List, [], _++_}
+use mathlib.Core.List.{List, [], _++_, append-nil}
 use mathlib.Core.Logic.{⊎-elim}
 use mathlib.Core.Path.{_≡_, refl, _∙_, ap}
 use Prim.Native.Nat.{ℕ, zero, suc, _+_, _-_, _*_, _≤_, _<_}
@@ -46,6 +46,18 @@ joined-sum (suc n) most f c h = omega (arith, mul-add most (c n) (sum n c), join
 pub joined-within : (n m : ℕ) (f : ℕ → List ℕ) → n ≤ m → length (joined n f) ≤ length (joined m f)
 joined-within n zero f l = let e : n ≡ 0 = omega arith in rw e (omega arith)
 joined-within n (suc m) f l = ⊎-elim (λ (b : n < suc m). omega (arith, joined-length m f, joined-within n m f (omega arith))) (λ (g : suc m ≤ n). let e : n ≡ suc m = omega arith in rw e (omega arith)) (lt-or-ge n (suc m))
+
+-- where none has a text, and where one alone has
+pub joined-empty : (n : ℕ) (f : ℕ → List ℕ) → ((i : ℕ) → i < n → f i ≡ []) → joined n f ≡ []
+joined-empty zero f h = joined-none f
+joined-empty (suc n) f h = rw (joined-more n f, joined-empty n f (λ i l. h i (omega arith)), h n (omega arith))
+
+pub joined-one : (n : ℕ) (f : ℕ → List ℕ) (j : ℕ) → j < n → ((i : ℕ) → i < n → (i ≡ j → ⊥) → f i ≡ []) → joined n f ≡ f j
+joined-one zero f j l h = absurd (omega arith)
+joined-one (suc n) f j l h = ⊎-elim
+    (λ (b : j < n). rw (joined-more n f, h n (omega arith) (λ e. omega arith), joined-one n f j b (λ i m. h i (omega arith))) (append-nil (f j)))
+    (λ (g : n ≤ j). let e : j ≡ n = omega arith in rw (joined-more n f, joined-empty n f (λ i m. h i (omega arith) (λ d. omega arith)), e))
+    (lt-or-ge j n)
 
 -- a line has at most 48 bytes
 pub put-most : (k v : ℕ) → length (putText k v) ≤ 48

@@ -33,5 +33,7 @@ pub mod Sessions
 pub mod PutLines
 pub mod Joining
 pub mod Answering
+pub mod AnsweringOnce
+pub mod TextGets
 pub mod Computing
 pub mod Faults

@@ -8,7 +8,7 @@ use native.Mathlib.Nat.{zero-add, add-zero, suc-add, add-suc, add-assoc, add-sub
 use native.Mathlib.Decide.{decLt}
 use native.Mathlib.Numerals.{add-one}
 use native.Mathlib.Omega.{arith}
-use lib.ListN.{length, getD, set, take, drop, length-set, length-take, length-drop, drop-of-length-le}
+use lib.ListN.{length, getD, List·getD-eq-default, set, take, drop, length-set, length-take, length-drop, drop-of-length-le}
 use lib.Seq.{sets, length-sets, sets-eq, set-comm, set-set, take-all, take-suc, drop-drop, ext-getD, getD-take, getD-drop, getD-set-same, getD-set-other, length-take-le}
 use borrow.Rule.Slice.PartMut.{putMid}
 use Rattle.model.specs.Bytes.{mid, within}
@@ -85,6 +85,11 @@ sets-sets vs ws xs a h k =
 -- ---- mid
 pub getD-mid : (a n : ℕ) (xs : List ℕ) (i : ℕ) → i < n → getD (mid a n xs) i 0 ≡ getD xs (a + i) 0
 getD-mid a n xs i l = getD-take n (drop a xs) i 0 l ∙ getD-drop a xs i 0
+
+-- a part of bytes is bytes
+pub mid-bytes : (a n : ℕ) (xs : List ℕ) → ((i : ℕ) → getD xs i 0 < 256) → (i : ℕ) → getD (mid a n xs) i 0 < 256
+mid-bytes a n xs bytes i = ⊎-elim (λ (l : i < n). rw (getD-mid a n xs i l) (bytes (a + i)))
+    (λ (l : n ≤ i). rw (List·getD-eq-default (mid a n xs) 0 {n = i} (omega (arith, length-take n (drop a xs)))) (omega arith)) (lt-or-ge i n)
 
 pub length-mid : (a n : ℕ) (xs : List ℕ) → a + n ≤ length xs → length (mid a n xs) ≡ n
 length-mid a n xs h = length-take-le n (drop a xs) (rw length-drop (omega arith))

@@ -1,1 +1,3 @@
 pub mod Given
+pub mod InTurn
+pub mod Making

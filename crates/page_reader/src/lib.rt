@@ -37,11 +37,11 @@ fn step_at(page: &[u8], place: usize) -> Step
     })
 }
 
-// A reader of the page from a place on: from 1 for the first entry, and from the place after an entry for the next.
-pub fn new<'a>(page: &'a [u8], place: usize) -> Reader<'a>
-    ensures { λ r. ⌜ (r .page ≡ page .entry) × (r .place ≡ place) ⌝ }
+// A reader of the page, at its first entry: place 0 is the page's head.
+pub fn new<'a>(page: &'a [u8]) -> Reader<'a>
+    ensures { λ r. ⌜ (r .page ≡ page .entry) × (r .place ≡ 1) ⌝ }
 {
-    Reader { page, place }
+    Reader { page, place: 1 }
 }
 
 // What it gives next.
@@ -52,10 +52,10 @@ pub fn next<'a>(r: Reader<'a>) -> Step
     step_at(r.page, r.place)
 }
 
-// For a caller that has the page and the place by themselves.
+// For a caller that goes on from a place: a reader that has come to it, asked once.
 pub fn entry_at(page: &[u8], place: usize) -> Step
     requires { ⌜ 16 + 16 * countOf (now page) ≤ length (now page) ⌝ }
     ensures { λ r. ⌜ r ≡ stepAt (now (page .entry)) place ⌝ }
 {
-    next(new(page, place))
+    next(Reader { page, place })
 }

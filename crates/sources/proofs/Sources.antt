@@ -1,28 +1,25 @@
 -- Each place that a text goes through is the buffer or a live batch; of what is readable each page there is whole, and one of a batch is the one expected.
-use Prim.Native.Nat.{ℕ, _+_, _-_, _≤_, _<_}
-use mathlib.Core.Bool.{true, not}
+use Prim.Native.Nat.{ℕ, _+_, _≤_, _<_}
+use mathlib.Core.Bool.{true}
 use mathlib.Core.List.{List}
 use mathlib.Core.Logic.{⊎-elim}
-use mathlib.Core.Option.{none}
 use mathlib.Core.Path.{_≡_}
 use native.Mathlib.Omega.{arith}
 use lib.ListN.{length}
-use borrow.Author.Tests.{not-false}
 use Rattle.model.specs.declared.Geometry.{Geometry}
-use Rattle.model.specs.Search.{isSome}
 use Rattle.model.specs.Geometry.{capacity, slotPageAt}
 use Rattle.model.specs.Page.{countOf, expected}
-use Rattle.model.specs.Partition.{headOf, liveOf, slot, isLive, oldest}
-use Rattle.model.specs.Batch.{batchPage, failedPage}
+use Rattle.model.specs.Partition.{headOf, liveOf, slot, isLive}
+use Rattle.model.specs.Batch.{batchPage}
 use Rattle.model.specs.Answers.{Place, buffer, batch}
-use Rattle.model.specs.PartitionText.{liveBatch, source, sourcePage, someBatchFails}
+use Rattle.model.specs.PartitionText.{liveBatch, source, sourcePage}
 use Rattle.model.proofs.Answering.{source-batch, source-buffer}
-use Rattle.model.proofs.Checks.{none-found, pages-fit}
-use Rattle.model.proofs.Heads.{head-fits, live-bounds, bounds-live}
+use Rattle.model.proofs.Checks.{pages-fit}
+use Rattle.model.proofs.Heads.{head-fits, bounds-live}
 use Rattle.model.proofs.Lookup.{expected-head}
 use Rattle.model.proofs.Parts.{length-mid, lt-or-ge}
-use Rattle.model.proofs.Searching.{first-none}
 use Rattle.model.proofs.Sizes.{slot-lt, slot-page-fits}
+use Rattle.model.proofs.TextGets.{live-expected}
 use Rattle.partition.proofs.Inside.{page-inside}
 use Rattle.sources.specs.Readable.{Readable, IsSource}
 
@@ -36,16 +33,8 @@ module _ (g : Geometry) (t : ℕ) (p f : List ℕ) (r : Readable g t p f) where
   pub batch-inside : (n q : ℕ) → q < g .pages → slotPageAt g t (slot g n) q + g .page ≤ length f
   batch-inside n q l = omega (arith, slot-page-fits g t (slot g n) q (r .below) (slot-lt g (r .whole .fine) n) l, r .flashFits)
 
-  none-fails : (i : ℕ) → i < liveOf p → failedPage g t f (liveBatch (headOf p) i) ≡ none
-  unfolding someBatchFails
-  none-fails i l = none-found _ (first-none (λ j. isSome (failedPage g t f (liveBatch (headOf p) j))) (liveOf p) 0 (none-found _ (r .batches)) i (omega arith) (omega arith))
-
   pub batch-expected : (n q : ℕ) → isLive (headOf p) n ≡ true → q < g .pages → expected g t n q (batchPage g t f n q) ≡ true
-  batch-expected n q e l =
-      let b = live-bounds (headOf p) n e in
-      let same : liveBatch (headOf p) (n - oldest (headOf p)) ≡ n = omega (arith, b) in
-      let fails : failedPage g t f n ≡ none = rw same at (none-fails (n - oldest (headOf p)) (omega (arith, b))) in
-      not-false _ (first-none (λ j. not (expected g t n j (batchPage g t f n j))) (g .pages) 0 fails q (omega arith) (omega arith))
+  batch-expected n q e l = live-expected g t p f (r .batches) n q e l
 
   pub source-page-fits : (at : Place) (q : ℕ) → IsSource (headOf p) at → q < g .pages → (length (sourcePage g t p f at q) ≡ g .page) × (countOf (sourcePage g t p f at q) ≤ capacity g)
   source-page-fits buffer q s l = (length-mid _ _ p (page-inside g p (r .whole) q l), pages-fit g p (r .pages) q l)
