@@ -1,7 +1,7 @@
 -- Laws of the chains of checks: which refusal each condition gives, and what a call may rely on once none of its checks refused it.
 use Prim.Native.Nat.{ℕ, zero, suc, _+_, _≤_, _<_}
 use mathlib.Core.Bool.{Bool, true, false, not, _&&_, _||_, and-false}
-use mathlib.Core.Path.{_≡_, refl}
+use mathlib.Core.Path.{_≡_, refl, _∙_}
 use mathlib.Core.List.{List}
 use mathlib.Core.Option.{Option, none, some}
 use native.Mathlib.Omega.{arith}
@@ -19,7 +19,7 @@ use Rattle.model.specs.Answers.{Areas, Refusal, unread}
 use Rattle.model.specs.Refusals.{refuseIf, refuseHead, headOverfull, pageOverfull, keyOverfull, somePageOverfull, totalOut, lastFlush}
 use Rattle.model.specs.Format.{formatChecks}
 use Rattle.model.specs.Flush.{inUse, dueChecks, flushChecks, pageChecks}
-use Rattle.model.specs.Put.{noPosition, due, appends, putChecks}
+use Rattle.model.specs.Put.{noPosition, due, appends, roomChecks, putChecks}
 use Rattle.model.specs.Get.{getChecks}
 use Rattle.model.specs.Del.{isListed, stampFor, removes, delChecks}
 use Rattle.model.specs.Drop.{oldestEntries, dropChecks}
@@ -150,38 +150,63 @@ module _ (g : Geometry) (k : ℕ) (p : List ℕ) where
   unfolding due
   appends-due e = appends-new (none-found _ (not-true _ (both-true (not (isSome (searched k page))) (eqb (countOf page) (capacity g)) e .0)))
 
+  -- what is checked whatever the value
+  module _ (f : List ℕ) where
+    pub room-12 : keyOverfull g k p ≡ true → roomChecks g k p f ≡ some (unread 12)
+    unfolding roomChecks
+    room-12 e = rw e
+
+    module _ (fits : keyOverfull g k p ≡ false) where
+      pub room-undue : due g k p ≡ false → roomChecks g k p f ≡ refuseIf (totalOut g (appends g k p) 0 (headOf p)) 12 none
+      unfolding roomChecks
+      room-undue e = rw (fits, e)
+
+      pub room-12-due : due g k p ≡ true → somePageOverfull g p ≡ true → roomChecks g k p f ≡ some (unread 12)
+      unfolding roomChecks
+      room-12-due is-due e = rw (fits, is-due, e)
+
+      pub room-due : due g k p ≡ true → somePageOverfull g p ≡ false → roomChecks g k p f ≡ dueChecks g (partitionOf g k) 1 p f
+      unfolding roomChecks
+      room-due is-due e = rw (fits, is-due, e)
+
+    -- what has passed: by whether a flush is due
+    pub room-accepted : roomChecks g k p f ≡ none → (keyOverfull g k p ≡ false)
+        × (due g k p ≡ false → totalOut g (appends g k p) 0 (headOf p) ≡ false)
+        × (due g k p ≡ true → (somePageOverfull g p ≡ false) × (dueChecks g (partitionOf g k) 1 p f ≡ none))
+    unfolding roomChecks
+    room-accepted e =
+        let one = refuse-none (keyOverfull g k p) 12 _ e in
+        (one .0, (λ d. refuse-none _ 12 none (rw d at (one .1)) .0), (λ d. refuse-none (somePageOverfull g p) 12 _ (rw d at (one .1))))
+
   module _ (v : ℕ) (f : List ℕ) where
     pub put-21 : noPosition v ≡ true → putChecks g k v p f ≡ some (unread 21)
     unfolding putChecks
     put-21 e = rw e
 
     module _ (position : noPosition v ≡ false) where
-      pub put-12 : keyOverfull g k p ≡ true → putChecks g k v p f ≡ some (unread 12)
+      pub put-room : putChecks g k v p f ≡ roomChecks g k p f
       unfolding putChecks
-      put-12 e = rw (position, e)
+      put-room = rw position
+
+      pub put-12 : keyOverfull g k p ≡ true → putChecks g k v p f ≡ some (unread 12)
+      put-12 e = put-room ∙ room-12 f e
 
       module _ (fits : keyOverfull g k p ≡ false) where
         pub put-undue : due g k p ≡ false → putChecks g k v p f ≡ refuseIf (totalOut g (appends g k p) 0 (headOf p)) 12 none
-        unfolding putChecks
-        put-undue e = rw (position, fits, e)
+        put-undue e = put-room ∙ room-undue f fits e
 
         pub put-12-due : due g k p ≡ true → somePageOverfull g p ≡ true → putChecks g k v p f ≡ some (unread 12)
-        unfolding putChecks
-        put-12-due is-due e = rw (position, fits, is-due, e)
+        put-12-due is-due e = put-room ∙ room-12-due f fits is-due e
 
         pub put-due : due g k p ≡ true → somePageOverfull g p ≡ false → putChecks g k v p f ≡ dueChecks g (partitionOf g k) 1 p f
-        unfolding putChecks
-        put-due is-due e = rw (position, fits, is-due, e)
+        put-due is-due e = put-room ∙ room-due f fits is-due e
 
     -- what an accepted put passed: by whether a flush was due
     pub put-accepted : putChecks g k v p f ≡ none → (noPosition v ≡ false) × (keyOverfull g k p ≡ false)
         × (due g k p ≡ false → totalOut g (appends g k p) 0 (headOf p) ≡ false)
         × (due g k p ≡ true → (somePageOverfull g p ≡ false) × (dueChecks g (partitionOf g k) 1 p f ≡ none))
     unfolding putChecks
-    put-accepted e =
-        let one = refuse-none (noPosition v) 21 _ e in
-        let two = refuse-none (keyOverfull g k p) 12 _ (one .1) in
-        (one .0, two .0, (λ d. refuse-none _ 12 none (rw d at (two .1)) .0), (λ d. refuse-none (somePageOverfull g p) 12 _ (rw d at (two .1))))
+    put-accepted e = let one = refuse-none (noPosition v) 21 _ e in let w = room-accepted f (one .1) in (one .0, w .0, w .1, w .2)
 
   -- ---- get: 12
   pub get-12 : keyOverfull g k p ≡ true → getChecks g k p ≡ some (unread 12)

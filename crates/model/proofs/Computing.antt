@@ -13,7 +13,7 @@ use Rattle.model.specs.Batch.{sum, pushesOut, failedHead, leaving, delis
 use Rattle.model.specs.Refusals.{unopened, headOverfull, pageOverfull, keyOverfull, somePageOverfull, totalOut}
 use Rattle.model.specs.Format.{formatChecks, emptiedPages, emptiedPartitions, formatted}
 use Rattle.model.specs.Flush.{dueChecks, flushChecks, filtered, headAfter, flushed, flushIn, pageChecks, withBatchPage, withBatch}
-use Rattle.model.specs.Put.{due, noPosition, appends, putLeaving, putChecks, unlisted, buffered, putIn}
+use Rattle.model.specs.Put.{due, noPosition, appends, putLeaving, roomChecks, putChecks, unlisted, buffered, putIn}
 use Rattle.model.specs.Get.{getChecks, readThrough, sought}
 use Rattle.model.specs.Del.{removes, delChecks, unbuffered, deleted}
 use Rattle.model.specs.View.{viewChecks, viewed}
@@ -24,5 +24,5 @@ use Rattle.model.specs.Drop.{dropChecks, headDropped, dropped, dropIn}
 use Rattle.model.specs.Calls.{checks, result, reply, effect, after, textLeft, run, replies}
 
 unfoldable pub computing : Type 0
-unfolding word bytesOf write within firstFrom isPower allowed mostEntries filterAt bufferAt stride partitionAt memoryNeed slotPageAt flashNeed geometryOf withOpening partitionOf pageOf mixed bitOf staying stayingBytes closedUp appended replaced removed stored added without taken emptied numbered expected enlisted struck expired unexpired withBit passes withBits withEntries withPages filterFor withHead totalled isLive slotBits batchPasses passingFrom passing sum pushesOut failedHead leaving unopened headOverfull pageOverfull keyOverfull somePageOverfull totalOut formatChecks emptiedPages emptiedPartitions formatted dueChecks flushChecks filtered delisted headAfter flushed flushIn pageChecks withBatchPage withBatch due noPosition appends putLeaving putChecks unlisted buffered putIn getChecks readThrough sought removes delChecks unbuffered deleted viewChecks viewed countChecks figures putText joined source answersIn answersWith entryText pageText sourceText partitionText someBatchFails textChecks dropChecks headDropped dropped dropIn checks result reply effect after textLeft run replies
+unfolding word bytesOf write within firstFrom isPower allowed mostEntries filterAt bufferAt stride partitionAt memoryNeed slotPageAt flashNeed geometryOf withOpening partitionOf pageOf mixed bitOf staying stayingBytes closedUp appended replaced removed stored added without taken emptied numbered expected enlisted struck expired unexpired withBit passes withBits withEntries withPages filterFor withHead totalled isLive slotBits batchPasses passingFrom passing sum pushesOut failedHead leaving unopened headOverfull pageOverfull keyOverfull somePageOverfull totalOut formatChecks emptiedPages emptiedPartitions formatted dueChecks flushChecks filtered delisted headAfter flushed flushIn pageChecks withBatchPage withBatch due noPosition appends putLeaving roomChecks putChecks unlisted buffered putIn getChecks readThrough sought removes delChecks unbuffered deleted viewChecks viewed countChecks figures putText joined source answersIn answersWith entryText pageText sourceText partitionText someBatchFails textChecks dropChecks headDropped dropped dropIn checks result reply effect after textLeft run replies
 computing = Unit {0}

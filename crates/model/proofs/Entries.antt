@@ -15,9 +15,9 @@ use Rattle.model.specs.Search.{firstFrom}
 use Rattle.model.specs.Records.{keyAt, firstRecord, staying, stayingBytes, closedUp}
 use Rattle.model.specs.Page.{countOf, searched, appended, replaced, removed, storedAt, stored, removedAt, without, emptied, numbered}
 use Rattle.model.proofs.Parts.{Apart, getD-sets-in, getD-mid}
-use Rattle.model.proofs.Words.{word-ext, length-write, getD-write-out, word-write, word-write-out, word-sets-out, word-zero}
+use Rattle.model.proofs.Words.{word-ext, length-write, getD-write-out, word-write, word-write-out, word-zero}
 use Rattle.model.proofs.Searching.{first-at}
-use Rattle.model.proofs.Closing.{staying-le, length-stayingBytes, length-closedUp, staying-one}
+use Rattle.model.proofs.Closing.{staying-le, length-stayingBytes, length-closedUp, word-closedUp-out, staying-one}
 use Rattle.model.proofs.Tests.{either}
 use Rattle.model.proofs.Tables.{Entry, find, store, erase, store-new, erase-none}
 
@@ -49,11 +49,6 @@ eqb-comm a b = either (eqb b a) (λ h. rw h (eq-eqb a b (sym (eqb-true b a h))))
 -- ---- the bytes of records that close up
 long-closed : (gone : ℕ → Bool) (n a : ℕ) (xs : List ℕ) → 16 * (a + n) ≤ length xs → length (stayingBytes gone n a xs ++ zeros (16 * (n - staying gone n a))) ≡ 16 * n
 long-closed gone n a xs h = simp (length-append, length-replicate) (omega (arith, length-stayingBytes gone n a xs h, staying-le gone n a))
-
--- no byte elsewhere changes
-pub word-closedUp-out : (m : ℕ) (gone : ℕ → Bool) (n a : ℕ) (xs : List ℕ) (b : ℕ) → 16 * (a + n) ≤ length xs → Apart (16 * a) (16 * n) b m → word m (closedUp gone n a xs) b ≡ word m xs b
-unfolding closedUp
-word-closedUp-out m gone n a xs b h d = word-sets-out m (stayingBytes gone n a xs ++ zeros (16 * (n - staying gone n a))) xs (16 * a) b (rw (long-closed gone n a xs h) d)
 
 -- ---- records, over the width
 pub length-entriesFrom : (w n a : ℕ) (xs : List ℕ) → length (entriesFrom w n a xs) ≡ n
@@ -213,23 +208,22 @@ entries-replaced : (i v : ℕ) (p : List ℕ) → 1 ≤ i → pageEntries (repla
 unfolding replaced
 entries-replaced i v p l = rw (word-write-out 2 8 v (16 * i + 8) p 0 (omega arith))
 
-module _ (i : ℕ) (p : List ℕ) (fits : 16 + 16 * countOf p ≤ length p) where
-  head-removed : (m b : ℕ) → 2 ≤ b → b + m ≤ 16 → word m (removed i p) b ≡ word m p b
+head-removed : (i : ℕ) (p : List ℕ) (m b : ℕ) → 2 ≤ b → b + m ≤ 16 → word m (removed i p) b ≡ word m p b
+unfolding removed
+head-removed i p m b l h = word-write-out m 2 _ 0 _ b (omega arith) ∙ word-closedUp-out (eqb i) (countOf p) 1 p m b (omega arith)
+
+module _ (i : ℕ) (p : List ℕ) (fits : 16 + 16 * countOf p ≤ length p) (small : length p ≤ 4096) where
+  count-removed : countOf (removed i p) ≡ countOf p - 1
   unfolding removed
-  head-removed m b l h = word-write-out m 2 _ 0 _ b (omega arith) ∙ word-closedUp-out m (eqb i) (countOf p) 1 p b (omega arith) (omega arith)
+  count-removed = word-write 2 (countOf p - 1) 0 _ (omega (arith, length-closedUp (eqb i) (countOf p) 1 p)) (omega arith)
 
-  module _ (small : length p ≤ 4096) where
-    count-removed : countOf (removed i p) ≡ countOf p - 1
-    unfolding removed
-    count-removed = word-write 2 (countOf p - 1) 0 _ (omega (arith, length-closedUp (eqb i) (countOf p) 1 p)) (omega arith)
-
-    entries-removed : (k : ℕ) → searched k p ≡ some i → pageEntries (removed i p) ≡ erase k (pageEntries p)
-    unfolding removed
-    entries-removed k e =
-        let c = countOf p in
-        let u = found-used k i p e in
-        rw (count-removed, entries-write-out 8 (omega arith) 2 (c - 1) 0 (c - 1) 1 (closedUp (eqb i) c 1 p) (omega arith), ← (staying-one i c 1 (u .0) (u .1)), entries-closedUp 8 (omega arith) (eqb i) 1 p c (omega arith))
-        (remaining-first 8 k i c 1 p e)
+  entries-removed : (k : ℕ) → searched k p ≡ some i → pageEntries (removed i p) ≡ erase k (pageEntries p)
+  unfolding removed
+  entries-removed k e =
+      let c = countOf p in
+      let u = found-used k i p e in
+      rw (count-removed, entries-write-out 8 (omega arith) 2 (c - 1) 0 (c - 1) 1 (closedUp (eqb i) c 1 p) (omega arith), ← (staying-one i c 1 (u .0) (u .1)), entries-closedUp 8 (omega arith) (eqb i) 1 p c (omega arith))
+      (remaining-first 8 k i c 1 p e)
 
 -- ---- a key stored in a page, or taken out of it
 pub head-stored : (k v : ℕ) (p : List ℕ) (m b : ℕ) → 2 ≤ b → b + m ≤ 16 → word m (stored k v p) b ≡ word m p b
@@ -247,7 +241,7 @@ module _ (p : List ℕ) (fits : 16 + 16 * countOf p ≤ length p) where
     where
       go : (o : Option ℕ) → word m (removedAt o p) b ≡ word m p b
       go none = refl
-      go (some i) = head-removed i p fits m b l h
+      go (some i) = head-removed i p m b l h
 
   module _ (small : length p ≤ 4096) where
     pub entries-without : (k : ℕ) → pageEntries (without k p) ≡ erase k (pageEntries p)

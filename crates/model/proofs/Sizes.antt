@@ -2,7 +2,7 @@
 use mathlib.Core.Bool.{true, false, _&&_, and-true}
 use mathlib.Core.Path.{_≡_, sym}
 use Prim.Native.Nat.{ℕ, _+_, _-_, _*_, _%_, _^_, _≤_, _<_}
-use native.Mathlib.Nat.{zero-add, zero-mul, mul-le-mul, mul-le-mul-right, pow-le-pow-right, mod-lt}
+use native.Mathlib.Nat.{zero-add, zero-mul, mul-le-mul, mul-le-mul-right, pow-le-pow-right, mod-lt, mod-one}
 use native.Mathlib.Omega.{arith}
 use lib.Arith.{digits-lt}
 use lib.Dec.{leb}
@@ -218,3 +218,8 @@ module _ (g : Geometry) (ok : allowed g ≡ true) where
 
   pub slot-is-lt : {j : ℕ} (n : ℕ) → j ≡ slot g n → j < g .kept
   slot-is-lt n e = rw e (slot-lt n)
+
+-- where a buffer has one page, every key has it
+pub page-of-one : (g : Geometry) → g .pages ≡ 1 → (k : ℕ) → pageOf g k ≡ 0
+unfolding pageOf
+page-of-one g one k = rw (one, mod-one)

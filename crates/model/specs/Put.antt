@@ -33,14 +33,17 @@ appends g k p = added k (bufferOf g p (pageOf g k))
 unfoldable pub putLeaving : Geometry → ℕ → List ℕ → List ℕ → ℕ
 putLeaving g k p f = cond (due g k p) (leaving g (partitionOf g k) p f) 0
 
--- 21, 12, then 12, 16, 13, 12 where a flush is due, and otherwise 12: for the key's partition with the bytes p, and flash
-unfoldable pub putChecks : Geometry → ℕ → ℕ → List ℕ → List ℕ → Option Refusal
-putChecks g k v p f =
-    refuseIf (noPosition v) 21
-    (refuseIf (keyOverfull g k p) 12
+-- 12, then 12, 16, 13, 12 where a flush is due, and otherwise 12: what a put of this key checks, whatever its value, for the key's partition with the bytes p, and flash
+unfoldable pub roomChecks : Geometry → ℕ → List ℕ → List ℕ → Option Refusal
+roomChecks g k p f =
+    refuseIf (keyOverfull g k p) 12
     (cond (due g k p)
     (refuseIf (somePageOverfull g p) 12 (dueChecks g (partitionOf g k) 1 p f))
-    (refuseIf (totalOut g (appends g k p) 0 (headOf p)) 12 none)))
+    (refuseIf (totalOut g (appends g k p) 0 (headOf p)) 12 none))
+
+-- 21, and then these
+unfoldable pub putChecks : Geometry → ℕ → ℕ → List ℕ → List ℕ → Option Refusal
+putChecks g k v p f = refuseIf (noPosition v) 21 (roomChecks g k p f)
 
 -- the list without entry i, or as it is
 abbrev pub unlistedAt : Option ℕ → Geometry → List ℕ → List ℕ

@@ -1,14 +1,13 @@
 -- From what was read of the batch that a flush pushes out to what the flush does.
 use Prim.Native.Nat.{ℕ, _+_, _-_, _≤_, _<_}
-use mathlib.Core.Bool.{true, false}
 use mathlib.Core.List.{List}
 use mathlib.Core.Option.{Option, none, some}
-use mathlib.Core.Path.{_≡_, refl, sym, _∙_, ap}
+use mathlib.Core.Path.{_≡_, refl, _∙_, ap}
 use native.Mathlib.Nat.{add-mod-right}
 use native.Mathlib.Omega.{arith}
 use borrow.Author.Tests.{le-leb, lt-leb}
 use Rattle.model.specs.declared.Geometry.{Geometry}
-use Rattle.model.specs.Partition.{headOf, flushesOf, liveOf, slot, oldest}
+use Rattle.model.specs.Partition.{Head, headOf, flushesOf, liveOf, slot, oldest}
 use Rattle.model.specs.Batch.{pushesOut, failedHead, leaving}
 use Rattle.model.specs.Answers.{unread}
 use Rattle.model.specs.Refusals.{refuseIf, refuseHead, totalOut, lastFlush}
@@ -29,21 +28,15 @@ pub passed-with : (o : Option model.Refusal) (n m : ℕ) → leavingWith o n ≡
 passed-with none n m e = (refl, cc)
 passed-with (some x) n m e = let z : _≡_ {A = ℕ} 0 1 = cc in absurd (omega arith)
 
--- ---- heads that were read, of so many entries, before what else is checked
-module _ (o : Option ℕ) (n : ℕ) where
-  pub heads-fail : (later : Option model.Refusal) (r : Refusal) → leavingWith (refuseHead o none) n ≡ Refused r → leavingWith (refuseHead o later) n ≡ Refused r
-  heads-fail later r e = go o e
-    where
-      go : (o : Option ℕ) → leavingWith (refuseHead o none) n ≡ Refused r → leavingWith (refuseHead o later) n ≡ Refused r
-      go none e = let z : _≡_ {A = ℕ} 0 1 = cc in absurd (omega arith)
-      go (some q) e = e
+-- ---- heads that were read, and then the total, with their entries less
+abbrev pub withTotal : Geometry → ℕ → Head → Leaving → Leaving
+withTotal g more h (Refused r) = Refused r
+withTotal g more h (Entries n) = leavingWith (refuseIf (totalOut g more n h) 12 none) n
 
-  pub heads-sound : (less : ℕ) → leavingWith (refuseHead o none) n ≡ Entries less → (o ≡ none) × (n ≡ less)
-  heads-sound less e = go o refl e
-    where
-      go : (x : Option ℕ) → o ≡ x → leavingWith (refuseHead x none) n ≡ Entries less → (o ≡ none) × (n ≡ less)
-      go none same e = (same, cc)
-      go (some q) same e = let z : _≡_ {A = ℕ} 0 1 = cc in absurd (omega arith)
+pub heads-then-total : (g : Geometry) (more : ℕ) (h : Head) (failed : Option ℕ) (n : ℕ)
+    → leavingWith (refuseHead failed (refuseIf (totalOut g more n h) 12 none)) n ≡ withTotal g more h (leavingWith (refuseHead failed none) n)
+heads-then-total g more h none n = refl
+heads-then-total g more h (some q) n = refl
 
 -- ---- batch F + 1 takes the slot of the one that it pushes out
 pub slot-again : (g : Geometry) (F live : ℕ) → live ≡ g .kept → live ≤ F → slot g (F + 1) ≡ slot g (F - live + 1)
@@ -68,26 +61,6 @@ module _ (g : Geometry) (t : ℕ) (p f : List ℕ) where
     unfolding leavingFor
     no-number e = rw (due-16 g t more p f e)
 
-    module _ (number : flushesOf p ≡ lastFlush → ⊥) where
-      abbrev later : Option model.Refusal
-      later = refuseIf (totalOut g more (leaving g t p f) (headOf p)) 12 none
-
-      read : leavingFor g t more p f ≡ leavingWith (refuseHead (failedHead g t p f) later) (leaving g t p f)
-      unfolding leavingFor
-      read = rw (due-read g t more p f number)
-
-      pub head-fails : (r : Refusal) → outgoingOf g t p f ≡ Refused r → Refused r ≡ leavingFor g t more p f
-      unfolding outgoingOf
-      head-fails r e = sym (read ∙ heads-fail (failedHead g t p f) (leaving g t p f) later r e)
-
-      -- all heads are as expected, and count so many entries
-      module _ (less : ℕ) (e : outgoingOf g t p f ≡ Entries less) where
-        all-sound : (failedHead g t p f ≡ none) × (leaving g t p f ≡ less)
-        unfolding outgoingOf
-        all-sound = heads-sound (failedHead g t p f) (leaving g t p f) less e
-
-        pub total-wrong : totalOut g more less (headOf p) ≡ true → Refused (ofRefusal (unread 12)) ≡ leavingFor g t more p f
-        total-wrong x = sym (read ∙ rw (all-sound .0, all-sound .1, x))
-
-        pub total-right : totalOut g more less (headOf p) ≡ false → Entries less ≡ leavingFor g t more p f
-        total-right x = sym (read ∙ rw (all-sound .0, all-sound .1, x))
+    pub then-total : (flushesOf p ≡ lastFlush → ⊥) → leavingFor g t more p f ≡ withTotal g more (headOf p) (outgoingOf g t p f)
+    unfolding leavingFor outgoingOf
+    then-total number = rw (due-read g t more p f number) (heads-then-total g more (headOf p) (failedHead g t p f) (leaving g t p f))

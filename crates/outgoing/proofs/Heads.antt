@@ -2,7 +2,7 @@
 use Prim.Native.Nat.{ℕ, _+_, _-_, _*_, _≤_, _<_}
 use mathlib.Core.Bool.{Bool, true, false, not}
 use mathlib.Core.List.{List}
-use mathlib.Core.Path.{_≡_, refl, sym, _∙_, ap}
+use mathlib.Core.Path.{_≡_, sym, _∙_, ap}
 use native.Mathlib.Nat.{add-zero, sub-zero}
 use native.Mathlib.Omega.{arith}
 use lib.ListN.{length}
@@ -18,7 +18,6 @@ use Rattle.model.proofs.Searching.{first-here, first-next, first-end}
 use Rattle.model.proofs.Sizes.{sizes, slot-lt, slot-page-fits}
 use Rattle.model.proofs.Sums.{sum-none, sum-next}
 use Rattle.model.proofs.Words.{word-mid}
-use Rattle.outgoing.specs.declared.Leaving.{Leaving}
 use Rattle.outgoing.specs.declared.Leaving.the-variants.{Refused, Entries}
 use Rattle.outgoing.specs.Leaving.{headsOf}
 

@@ -14,8 +14,8 @@ use Rattle.model.specs.Batch.{leaving}
 use Rattle.model.specs.Answers.{Refusal, unread}
 use Rattle.model.specs.Refusals.{refuseIf, keyOverfull, somePageOverfull, totalOut}
 use Rattle.model.specs.Flush.{dueChecks}
-use Rattle.model.specs.Put.{noPosition, due, appends, putChecks}
-use Rattle.model.proofs.Checks.{key-fits, undue-room, no-position, a-position, appends-found, appends-new, put-21, put-12, put-undue, put-12-due, put-due, put-accepted, due-accepted}
+use Rattle.model.specs.Put.{due, appends, putChecks}
+use Rattle.model.proofs.Checks.{key-fits, undue-room, no-position, a-position, appends-found, appends-new, room-12, room-undue, room-12-due, room-due, put-21, put-room, put-accepted, due-accepted}
 use Rattle.model.proofs.Heads.{HeadWords, head-fits, total-in, in-total, total-above}
 use Rattle.partition.specs.Ready.{Storable, Flushable}
 use Rattle.partition.proofs.Flushing.{flushable}
@@ -24,7 +24,7 @@ use Rattle.outgoing.specs.declared.Leaving.{Leaving}
 use Rattle.outgoing.specs.Leaving.{leavingWith, leavingFor}
 use Rattle.put.specs.declared.Plan.{Plan}
 use Rattle.put.specs.declared.Plan.the-variants.{Refused, Store, Flush}
-use Rattle.put.specs.Plans.{planWith, planStore, planFlush, planFor}
+use Rattle.put.specs.Plans.{planWith, planStore, planFlush, planRoom, planFor}
 
 -- what an outgoing batch lets a put do
 abbrev pub planOf : Leaving → Plan
@@ -68,33 +68,34 @@ module _ (g : Geometry) (k : ℕ) (p : List ℕ) (fits : keyOverfull g k p ≡ f
   unfolding planStore
   no-room l e = let one-more = appends-new g k p e in rw (total-above g (headOf p) (appends g k p) 0 (omega arith) (omega arith))
 
+-- ---- from the tests to the plan
+module _ (g : Geometry) (k : ℕ) (p f : List ℕ) where
+  pub over : keyOverfull g k p ≡ true → planRoom g k p f ≡ Refused (ofRefusal (unread 12))
+  unfolding planRoom
+  over h = rw (room-12 g k p f h)
+
+  module _ (h : keyOverfull g k p ≡ false) where
+    pub not-due : due g k p ≡ false → planRoom g k p f ≡ planStore g k p
+    unfolding planRoom planStore
+    not-due d = rw (room-undue g k p f h d, d) (stays (refuseIf (totalOut g (appends g k p) 0 (headOf p)) 12 none) (leaving g (partitionOf g k) p f))
+
+    module _ (d : due g k p ≡ true) where
+      pub some-over : somePageOverfull g p ≡ true → planRoom g k p f ≡ Refused (ofRefusal (unread 12))
+      unfolding planRoom
+      some-over e = rw (room-12-due g k p f h d e)
+
+      pub flush-first : somePageOverfull g p ≡ false → planRoom g k p f ≡ planFlush g k p f
+      unfolding planRoom planFlush
+      flush-first e = rw (room-due g k p f h d e, d)
+
 module _ (g : Geometry) (k v : ℕ) (p f : List ℕ) where
-  -- ---- from the tests to the plan
   pub zero : v ≡ 0 → planFor g k v p f ≡ Refused (ofRefusal (unread 21))
   unfolding planFor
   zero z = rw (put-21 g k p v f (no-position v z))
 
-  module _ (z : v ≡ 0 → ⊥) where
-    abbrev position : noPosition v ≡ false
-    position = a-position v z
-
-    pub over : keyOverfull g k p ≡ true → planFor g k v p f ≡ Refused (ofRefusal (unread 12))
-    unfolding planFor
-    over h = rw (put-12 g k p v f position h)
-
-    module _ (h : keyOverfull g k p ≡ false) where
-      pub not-due : due g k p ≡ false → planFor g k v p f ≡ planStore g k p
-      unfolding planFor planStore
-      not-due d = rw (put-undue g k p v f position h d, d) (stays (refuseIf (totalOut g (appends g k p) 0 (headOf p)) 12 none) (leaving g (partitionOf g k) p f))
-
-      module _ (d : due g k p ≡ true) where
-        pub some-over : somePageOverfull g p ≡ true → planFor g k v p f ≡ Refused (ofRefusal (unread 12))
-        unfolding planFor
-        some-over e = rw (put-12-due g k p v f position h d e)
-
-        pub flush-first : somePageOverfull g p ≡ false → planFor g k v p f ≡ planFlush g k p f
-        unfolding planFor planFlush
-        flush-first e = rw (put-due g k p v f position h d e, d)
+  pub nonzero : (v ≡ 0 → ⊥) → planFor g k v p f ≡ planRoom g k p f
+  unfolding planFor planRoom
+  nonzero z = rw (put-room g k p v f (a-position v z))
 
   -- ---- what a plan means: which refusal the checks give, or that they give none, and whether a flush is due
   abbrev pub Means : Plan → Type 0

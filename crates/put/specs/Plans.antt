@@ -10,7 +10,7 @@ use Rattle.model.specs.Batch.{leaving}
 use Rattle.model.specs.Answers.{Refusal}
 use Rattle.model.specs.Refusals.{refuseIf, totalOut}
 use Rattle.model.specs.Flush.{dueChecks}
-use Rattle.model.specs.Put.{due, appends, putChecks}
+use Rattle.model.specs.Put.{due, appends, roomChecks, putChecks}
 use Rattle.answers.specs.Told.{ofRefusal}
 use Rattle.put.specs.declared.Plan.{Plan}
 use Rattle.put.specs.declared.Plan.the-variants.{Refused, Store, Flush}
@@ -27,5 +27,10 @@ planStore g k p = planWith (refuseIf (totalOut g (appends g k p) 0 (headOf p)) 1
 unfoldable pub planFlush : Geometry → ℕ → List ℕ → List ℕ → Plan
 planFlush g k p f = planWith (dueChecks g (partitionOf g k) 1 p f) true (leaving g (partitionOf g k) p f)
 
+-- for a key, whatever the value
+unfoldable pub planRoom : Geometry → ℕ → List ℕ → List ℕ → Plan
+planRoom g k p f = planWith (roomChecks g k p f) (due g k p) (leaving g (partitionOf g k) p f)
+
+-- for a key and a value
 unfoldable pub planFor : Geometry → ℕ → ℕ → List ℕ → List ℕ → Plan
 planFor g k v p f = planWith (putChecks g k v p f) (due g k p) (leaving g (partitionOf g k) p f)

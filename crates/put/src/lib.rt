@@ -1,9 +1,11 @@
-// The put: what it does, decided from one partition; and as a call on whole areas.
+// The put: what it does, decided from one partition; that, done to whole areas; and both as a call.
 ghost use mathlib.Core.Bool.{false};
 ghost use mathlib.Core.Path.{_≡_};
 ghost use Prim.Native.Nat.{_≤_};
 ghost use lib.ListN.{length};
 ghost use Rattle.model.specs.Geometry.{flashNeed};
+ghost use Rattle.model.specs.Keys.{partitionOf};
+ghost use Rattle.model.specs.Partition.{partition};
 ghost use Rattle.model.specs.Refusals.{keyOverfull};
 ghost use Rattle.model.specs.Put.{due};
 ghost use Rattle.model.specs.Calls.{Call};
@@ -11,7 +13,7 @@ ghost use Rattle.partition.specs.Ready.{Whole};
 ghost use Rattle.answers.specs.Told.{written};
 ghost use Rattle.answers.specs.Performs.{Performs};
 ghost use Rattle.opening.specs.Opened.{IsTable};
-ghost use Rattle.put.specs.Plans.{planStore, planFlush, planFor};
+ghost use Rattle.put.specs.Plans.{planStore, planFlush, planRoom, planFor};
 use answers::Refusal;
 use answers::Written;
 use head::Head;
@@ -73,18 +75,12 @@ fn plan_flush(part: &[u8], flash: &[u8], g: Geometry, key: u64) -> Plan
     }
 }
 
-// 21, 12, and then as a flush is due or not.
-pub fn decide(part: &[u8], flash: &[u8], g: Geometry, key: u64, value: u64) -> Plan
+// 12, and then as a flush is due or not: all that does not look at the value.
+pub fn decide_room(part: &[u8], flash: &[u8], g: Geometry, key: u64) -> Plan
     requires { ⌜ Whole g (now part) ⌝ }
     requires { ⌜ flashNeed g ≤ length (now flash) ⌝ }
-    ensures { λ r. ⌜ r ≡ planFor g key value (now (part .entry)) (now (flash .entry)) ⌝ }
+    ensures { λ r. ⌜ r ≡ planRoom g key (now (part .entry)) (now (flash .entry)) ⌝ }
 {
-    if value == 0 {
-        return Plan::Refused(Refusal {
-            number: 21,
-            reads: 0,
-        });
-    }
     if buffer::is_key_overfull(part, g, key) {
         return Plan::Refused(Refusal {
             number: 12,
@@ -103,15 +99,37 @@ pub fn decide(part: &[u8], flash: &[u8], g: Geometry, key: u64, value: u64) -> P
     plan_flush(part, flash, g, key)
 }
 
-// The whole call on an opened table.
-pub fn call(memory: &mut [u8], flash: &mut [u8], g: Geometry, key: u64, value: u64) -> Written
+// 21, and then what does not look at the value.
+pub fn decide(part: &[u8], flash: &[u8], g: Geometry, key: u64, value: u64) -> Plan
+    requires { ⌜ Whole g (now part) ⌝ }
+    requires { ⌜ flashNeed g ≤ length (now flash) ⌝ }
+    ensures { λ r. ⌜ r ≡ planFor g key value (now (part .entry)) (now (flash .entry)) ⌝ }
+{
+    if value == 0 {
+        return Plan::Refused(Refusal {
+            number: 21,
+            reads: 0,
+        });
+    }
+    decide_room(part, flash, g, key)
+}
+
+// The plan, done: refused, or stored, behind the flush if one is planned. Nothing is decided again.
+pub fn apply(
+    memory: &mut [u8],
+    flash: &mut [u8],
+    g: Geometry,
+    key: u64,
+    value: u64,
+    plan: Plan,
+) -> Written
     requires { ⌜ IsTable g (now memory) (now flash) ⌝ }
+    requires { ⌜ plan ≡ planFor g key value (partition g (partitionOf g key) (now memory)) (now flash) ⌝ }
     ensures { λ r. ⌜ Performs (Call.put key value) (now (memory .entry)) (now (flash .entry)) (written r) (now (memory .exit)) (now (flash .exit)) ⌝ }
 {
-    let part = partition::part_of_key(memory, g, key);
     let mut pages: u32 = 0;
     let mut less: u32 = 0;
-    match decide(part, flash, g, key, value) {
+    match plan {
         Plan::Refused(refusal) => return Written::Refused(refusal),
         Plan::Store => {}
         Plan::Flush(entries) => {
@@ -122,4 +140,13 @@ pub fn call(memory: &mut [u8], flash: &mut [u8], g: Geometry, key: u64, value: u
     }
     storing::store_unlisted_at(memory, g, key, value, less);
     Written::Done(pages)
+}
+
+// The whole call on an opened table.
+pub fn call(memory: &mut [u8], flash: &mut [u8], g: Geometry, key: u64, value: u64) -> Written
+    requires { ⌜ IsTable g (now memory) (now flash) ⌝ }
+    ensures { λ r. ⌜ Performs (Call.put key value) (now (memory .entry)) (now (flash .entry)) (written r) (now (memory .exit)) (now (flash .exit)) ⌝ }
+{
+    let plan = decide(partition::part_of_key(memory, g, key), flash, g, key, value);
+    apply(memory, flash, g, key, value, plan)
 }

@@ -10,10 +10,11 @@ use Rattle.model.proofs.Heads.{head-fits}
 use Rattle.model.proofs.Checks.{drop-12, drop-23}
 use Rattle.head.proofs.Fields.{flushes-is, live-is}
 use Rattle.partition.proofs.Inside.{list-inside}
-use Rattle.outgoing.specs.declared.Leaving.the-variants.{Entries}
+use Rattle.outgoing.specs.declared.Leaving.{Leaving}
 use Rattle.outgoing.specs.Leaving.{headsOf}
+use Rattle.outgoing.proofs.Deciding.{withTotal}
 use Rattle.drop.specs.Plans.{planFor}
-use Rattle.drop.proofs.Deciding.{head-fails, total-wrong, total-right}
+use Rattle.drop.proofs.Deciding.{then-total}
 use Rattle.drop.proofs.decide.Statement.{statement}
 use Rattle.drop.proofs.decide.Tie as tie
 
@@ -58,11 +59,16 @@ returns-2 c = let e = c .before .before in let r = read-at e in rw (drop-23 _ _ 
 sub-oldest : tie.Need-sub-oldest
 sub-oldest c = let e = behind (c .before) in let r = read-at e .read .ensures in omega (arith, head-fits _ _ (fits e) .flushed, flushes-is r, live-is r)
 
-sound : (c : tie.After-is-total-out) → let r = read-at (behind (some-live (heads-read c))) in let a = start r .args in let h = r .read .result in headsOf (a .g) (a .t) (h .flushes - h .live + 1) (a .flash .now) ≡ Entries (c .before .before .less .given .0 .0)
-sound c = sym (heads-read c .read-heads .ensures) ∙ c .before .before .less .given .1
+-- ---- what was read of it, and then the total
+planned : (c : tie.After-read-heads) (r : Leaving) → c .read-heads .result ≡ r → let a = start (read-at (behind (some-live c))) .args in planFor (a .g) (a .t) (a .part .now) (a .flash .now) ≡ withTotal (a .g) 0 (headOf (a .part .now)) r
+planned c r e =
+    let l = some-live c in
+    let s = start (read-at (behind l)) in
+    let a = s .args in
+    then-total _ _ _ _ (s .pre .1 .1) (fits (behind l)) (any l) ∙ ap (withTotal (a .g) 0 (headOf (a .part .now))) (ap (λ n. headsOf (a .g) (a .t) n (a .flash .now)) (sym (oldest-is l)) ∙ sym (c .read-heads .ensures) ∙ e)
 
-judged : (c : tie.After-is-total-out) → let a = start (read-at (behind (some-live (heads-read c)))) .args in c .is-total-out .result ≡ totalOut (a .g) 0 (c .before .before .less .given .0 .0) (headOf (a .part .now))
-judged c = let r = read-at (behind (some-live (heads-read c))) in c .is-total-out .ensures ∙ ap (totalOut (start r .args .g) 0 _) (r .read .ensures)
+judged : (c : tie.After-is-total-out) → let a = start (read-at (behind (some-live (heads-read c)))) .args in totalOut (a .g) 0 (c .before .before .less .given .0 .0) (headOf (a .part .now)) ≡ c .is-total-out .result
+judged c = let r = read-at (behind (some-live (heads-read c))) in sym (c .is-total-out .ensures ∙ ap (totalOut (start r .args .g) 0 _) (r .read .ensures))
 
 is-total-out-requires : tie.Need-is-total-out-requires
 is-total-out-requires c κs =
@@ -71,25 +77,13 @@ is-total-out-requires c κs =
     (start r .pre .0 .fine, (ap (headOverfull (start r .args .g)) (r .read .ensures) ∙ fits e, omega arith))
 
 returns-3 : tie.Need-returns-3
-returns-3 c =
-    let o = c .before in
-    let l = some-live (heads-read o) in
-    let e = behind l in
-    total-wrong _ _ _ _ (start (read-at e) .pre .1 .1) (fits e) (any l) _ (oldest-is l) _ (sound o) (sym (judged o) ∙ c .if3 .taken)
+returns-3 c = let o = c .before in sym (planned (heads-read o) _ (o .before .before .less .given .1) ∙ rw (judged o, c .if3 .taken))
 
 returns-4 : tie.Need-returns-4
-returns-4 c =
-    let h = c .before .before .before in
-    let l = some-live h in
-    let e = behind l in
-    head-fails _ _ _ _ (start (read-at e) .pre .1 .1) (fits e) (any l) _ (oldest-is l) _ (sym (h .read-heads .ensures) ∙ c .before .refusal .given .1)
+returns-4 c = sym (planned (c .before .before .before) _ (c .before .refusal .given .1))
 
 returns-5 : tie.Need-returns-5
-returns-5 c =
-    let o = c .before in
-    let l = some-live (heads-read o) in
-    let e = behind l in
-    total-right _ _ _ _ (start (read-at e) .pre .1 .1) (fits e) (any l) _ (oldest-is l) _ (sound o) (sym (judged o) ∙ c .if3 .left)
+returns-5 c = let o = c .before in sym (planned (heads-read o) _ (o .before .before .less .given .1) ∙ rw (judged o, c .if3 .left))
 
 pub decide-spec : {M : Type 1} → statement M
 decide-spec =

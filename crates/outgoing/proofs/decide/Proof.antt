@@ -1,5 +1,4 @@
 -- 16, then what was read of the outgoing batch, then the total: each test is the definition's, in its order.
-use Prim.Native.Nat.{ℕ}
 use mathlib.Core.Path.{_≡_, sym, _∙_, ap}
 use native.Mathlib.Omega.{arith}
 use borrow.Author.Needs.{needs}
@@ -8,9 +7,9 @@ use Rattle.model.specs.Refusals.{headOverfull, totalOut, lastFlush}
 use Rattle.head.proofs.Fields.{flushes-is}
 use Rattle.partition.proofs.Inside.{list-inside}
 use Rattle.partition.proofs.Lending.{head-words}
-use Rattle.outgoing.specs.declared.Leaving.the-variants.{Entries}
-use Rattle.outgoing.specs.Leaving.{outgoingOf}
-use Rattle.outgoing.proofs.Deciding.{no-number, head-fails, total-wrong, total-right}
+use Rattle.outgoing.specs.declared.Leaving.{Leaving}
+use Rattle.outgoing.specs.Leaving.{leavingFor}
+use Rattle.outgoing.proofs.Deciding.{withTotal, no-number, then-total}
 use Rattle.outgoing.proofs.decide.Statement.{statement}
 use Rattle.outgoing.proofs.decide.Tie as tie
 
@@ -35,15 +34,12 @@ read-outgoing-requires c κs =
     let words = head-words (start r .args .part .now) (λ i. omega (arith, r .before .before .shared-slice-known .given i)) in
     (p .0, (p .1 .0, (p .1 .1 .0, (p .1 .1 .1 .0, omega (arith, number c, words .flushes)))))
 
--- ---- all heads are as expected, and count what leaves
-abbrev leaving : tie.After-is-total-out → ℕ
-leaving c = c .before .before .less .given .0 .0
+-- ---- what was read of the outgoing batch, and then the total
+planned : (c : tie.After-read-outgoing) (r : Leaving) → c .read-outgoing .result ≡ r → let a = start (read-at (c .before)) .args in leavingFor (a .g) (a .t) (a .more) (a .part .now) (a .flash .now) ≡ withTotal (a .g) (a .more) (headOf (a .part .now)) r
+planned c r e = let a = start (read-at (c .before)) .args in then-total _ _ _ _ _ (number (c .before)) ∙ ap (withTotal (a .g) (a .more) (headOf (a .part .now))) (sym (c .read-outgoing .ensures) ∙ e)
 
-sound : (c : tie.After-is-total-out) → let a = start (read-at (numbered c)) .args in outgoingOf (a .g) (a .t) (a .part .now) (a .flash .now) ≡ Entries (leaving c)
-sound c = sym (c .before .before .before .before .read-outgoing .ensures) ∙ c .before .before .less .given .1
-
-judged : (c : tie.After-is-total-out) → let a = start (read-at (numbered c)) .args in c .is-total-out .result ≡ totalOut (a .g) (a .more) (leaving c) (headOf (a .part .now))
-judged c = let r = read-at (numbered c) in c .is-total-out .ensures ∙ ap (totalOut (start r .args .g) (start r .args .more) (leaving c)) (r .read .ensures)
+judged : (c : tie.After-is-total-out) → let a = start (read-at (numbered c)) .args in totalOut (a .g) (a .more) (c .before .before .less .given .0 .0) (headOf (a .part .now)) ≡ c .is-total-out .result
+judged c = let r = read-at (numbered c) in sym (c .is-total-out .ensures ∙ ap (totalOut (start r .args .g) (start r .args .more) _) (r .read .ensures))
 
 is-total-out-requires : tie.Need-is-total-out-requires
 is-total-out-requires c κs =
@@ -55,13 +51,13 @@ returns : tie.Need-returns
 returns c = no-number _ _ _ _ _ (omega (arith, flushes-is (c .before .before .read .ensures)))
 
 returns-2 : tie.Need-returns-2
-returns-2 c = total-wrong _ _ _ _ _ (number (numbered (c .before))) _ (sound (c .before)) (sym (judged (c .before)) ∙ c .if2 .taken)
+returns-2 c = let o = c .before in sym (planned (o .before .before .before .before) _ (o .before .before .less .given .1) ∙ rw (judged o, c .if2 .taken))
 
 returns-3 : tie.Need-returns-3
-returns-3 c = head-fails _ _ _ _ _ (number (c .before .before .before .before)) _ (sym (c .before .before .before .read-outgoing .ensures) ∙ c .before .refusal .given .1)
+returns-3 c = sym (planned (c .before .before .before) _ (c .before .refusal .given .1))
 
 returns-4 : tie.Need-returns-4
-returns-4 c = total-right _ _ _ _ _ (number (numbered (c .before))) _ (sound (c .before)) (sym (judged (c .before)) ∙ c .if2 .left)
+returns-4 c = let o = c .before in sym (planned (o .before .before .before .before) _ (o .before .before .less .given .1) ∙ rw (judged o, c .if2 .left))
 
 pub decide-spec : {M : Type 1} → statement M
 decide-spec = tie.close (tie.spec (λ c κs. omega (arith, list-inside _ _ (c .before .before .pre .0))) returns read-outgoing-requires (λ c. search needs) (λ c. search needs) is-total-out-requires returns-2 returns-3 returns-4)

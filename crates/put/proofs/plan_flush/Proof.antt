@@ -2,10 +2,8 @@
 use mathlib.Core.Path.{_≡_, sym, _∙_, ap}
 use native.Mathlib.Omega.{arith}
 use borrow.Author.Needs.{needs}
-use Rattle.model.specs.Keys.{partitionOf}
 use Rattle.model.proofs.Checks.{key-fits}
 use Rattle.model.proofs.Sizes.{partition-of-lt}
-use Rattle.outgoing.specs.Leaving.{leavingFor}
 use Rattle.put.specs.Plans.{planFlush}
 use Rattle.put.proofs.Planning.{planOf, flush-plan}
 use Rattle.put.proofs.plan_flush.Statement.{statement}

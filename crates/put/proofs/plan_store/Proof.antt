@@ -1,5 +1,5 @@
 -- Room for an entry more, then the key's page: the two cases of the definition.
-use mathlib.Core.Path.{_≡_, sym, _∙_}
+use mathlib.Core.Path.{sym}
 use native.Mathlib.Omega.{arith}
 use borrow.Author.Needs.{needs}
 use Rattle.model.proofs.Sizes.{page-of-lt}
