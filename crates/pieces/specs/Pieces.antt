@@ -1,5 +1,5 @@
 -- What the running of a piece of input promises: what stands in the buffer and in both areas. What was written no contract can say.
-use Prim.Native.Nat.{ℕ, _+_, _≤_}
+use Prim.Native.Nat.{ℕ, _+_, _≤_, _<_}
 use mathlib.Core.List.{List}
 use mathlib.Core.Path.{_≡_}
 use lib.ListN.{length, take}
@@ -16,9 +16,10 @@ pub record Went (taken : ℕ) (text : List ℕ) (a a′ : Areas) : Type 0 where
   pub whole : Whole (take taken text)
   pub leaves : a′ ≡ linesLeave (linesOf (take taken text)) a
 
--- a write failed: some whole lines at the start of the text were run
+-- a write failed: whole lines at the start of the text were run, at least one
 pub record WentPartly (text : List ℕ) (a a′ : Areas) : Type 0 where
   pub taken : ℕ
+  pub some : 0 < taken
   pub went : Went taken text a a′
 
 -- all whole lines were run

@@ -1,11 +1,10 @@
 // A piece of input, run: its whole lines, or the last line, with their answers to standard output.
-ghost use mathlib.Core.Path.{_≡_};
 ghost use Prim.Native.Nat.{_-_, _≤_};
 ghost use lib.ListN.{length, take};
-ghost use Rattle.model.specs.Session.{linesOf, linesLeave};
 ghost use Rattle.answers.specs.Performs.{areas};
 ghost use Rattle.lines.specs.Lines.{Unended};
 ghost use Rattle.applying.specs.Applies.{room};
+ghost use Rattle.session.specs.Promises.{Ran};
 ghost use Rattle.held.specs.Held.{Within};
 ghost use Rattle.pieces.specs.Pieces.{WentOn, MadeOf};
 use held::Got;
@@ -46,19 +45,20 @@ fn run_whole(memory: &mut [u8], flash: &mut [u8], input: &[u8], out: &mut [u8]) 
     Step::Until(taken)
 }
 
-// A last line that the end of input ends.
-fn run_last(memory: &mut [u8], flash: &mut [u8], line: &[u8], out: &mut [u8])
+// A last line that the end of input ends. Tells the length of its answer, so that the promise covers what stands in `out`.
+fn run_last(memory: &mut [u8], flash: &mut [u8], line: &[u8], out: &mut [u8]) -> usize
     requires { ⌜ room ≤ length (now out) ⌝ }
     requires { ⌜ Unended 0 (now line) ⌝ }
-    ensures { λ _. ⌜ areas (now (memory .exit)) (now (flash .exit)) ≡ linesLeave (linesOf (now (line .entry))) (areas (now (memory .entry)) (now (flash .entry))) ⌝ }
+    ensures { λ r. ⌜ Ran (now (line .entry)) (areas (now (memory .entry)) (now (flash .entry))) (now (out .entry)) r (now (out .exit)) (areas (now (memory .exit)) (now (flash .exit))) ⌝ }
 {
     if line.len() == 0 {
-        return;
+        return 0;
     }
     let Printed::Until(end) = session::apply_line(memory, flash, line, out, 0) else {
-        return;
+        return 0;
     };
     io::write_all(STDOUT_FILENO, &out[..end]);
+    end
 }
 
 // Goes on from what was read behind the bytes that are held; tells where the next unfinished line stands.
