@@ -4,9 +4,8 @@ ghost use lib.ListN.{length, take};
 ghost use Rattle.answers.specs.Performs.{areas};
 ghost use Rattle.lines.specs.Lines.{Unended};
 ghost use Rattle.applying.specs.Applies.{room};
-ghost use Rattle.session.specs.Promises.{Ran};
 ghost use Rattle.held.specs.Held.{Within};
-ghost use Rattle.pieces.specs.Pieces.{WentOn, MadeOf};
+ghost use Rattle.pieces.specs.Pieces.{WentOn, RanLast, MadeOf};
 use held::Got;
 use held::Rest;
 use libc::STDOUT_FILENO;
@@ -45,20 +44,19 @@ fn run_whole(memory: &mut [u8], flash: &mut [u8], input: &[u8], out: &mut [u8]) 
     Step::Until(taken)
 }
 
-// A last line that the end of input ends. Tells the length of its answer, so that the promise covers what stands in `out`.
-fn run_last(memory: &mut [u8], flash: &mut [u8], line: &[u8], out: &mut [u8]) -> usize
+// A last line that the end of input ends.
+fn run_last(memory: &mut [u8], flash: &mut [u8], line: &[u8], out: &mut [u8])
     requires { ⌜ room ≤ length (now out) ⌝ }
     requires { ⌜ Unended 0 (now line) ⌝ }
-    ensures { λ r. ⌜ Ran (now (line .entry)) (areas (now (memory .entry)) (now (flash .entry))) (now (out .entry)) r (now (out .exit)) (areas (now (memory .exit)) (now (flash .exit))) ⌝ }
+    ensures { λ _. ⌜ RanLast (now (line .entry)) (areas (now (memory .entry)) (now (flash .entry))) (now (out .entry)) (now (out .exit)) (areas (now (memory .exit)) (now (flash .exit))) ⌝ }
 {
     if line.len() == 0 {
-        return 0;
+        return;
     }
     let Printed::Until(end) = session::apply_line(memory, flash, line, out, 0) else {
-        return 0;
+        return;
     };
     io::write_all(STDOUT_FILENO, &out[..end]);
-    end
 }
 
 // Goes on from what was read behind the bytes that are held; tells where the next unfinished line stands.
@@ -74,7 +72,7 @@ pub fn run_piece(
     requires { ⌜ held ≤ length (now input) ⌝ }
     requires { ⌜ Unended 0 (take held (now input)) ⌝ }
     requires { ⌜ Within got (length (now input) - held) ⌝ }
-    ensures { λ r. ⌜ MadeOf got r held (now (input .entry)) (areas (now (memory .entry)) (now (flash .entry))) (areas (now (memory .exit)) (now (flash .exit))) ⌝ }
+    ensures { λ r. ⌜ MadeOf got r held (now (input .entry)) (areas (now (memory .entry)) (now (flash .entry))) (now (out .entry)) (now (out .exit)) (areas (now (memory .exit)) (now (flash .exit))) ⌝ }
 {
     match got {
         Got::Failure => Next::Failed,

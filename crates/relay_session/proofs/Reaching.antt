@@ -67,22 +67,23 @@ module _ {rest : Rest} {xs : List ℕ} {a a₁ : Areas} (r : Reached rest xs a a
           }
 
       -- what the read told, and what was made of it
-      pub goes : {rest′ : Rest} {a₂ : Areas} → longest < length later → (got : Got) → Within got (length later - n) → MadeOf got (Next.On rest′) n later a₁ a₂ → Reached rest′ later a a₂ × Held rest′ later
-      goes l Got.Failure m e = let z : _≡_ {A = ℕ} 0 1 = cc in absurd (omega arith)
-      goes l Got.End m e = let z : _≡_ {A = ℕ} 0 1 = cc in absurd (omega arith)
-      goes {rest′} l (Got.Bytes b) m e =
-          let w = rw (sym (e .0)) at (e .1) in
-          let u = rw (sym (e .0)) at (e .2) in (
-            reaches rest′ (omega (arith, e .0)) w,
-            record { begins = omega (arith, w .within, length-take (rest′ .end) later); within = omega (arith, e .0, m, kept-short k h); unended = u },
-          )
+      module _ (o o′ : List ℕ) {a₂ : Areas} where
+        pub goes : {rest′ : Rest} → longest < length later → (got : Got) → Within got (length later - n) → MadeOf got (Next.On rest′) n later a₁ o o′ a₂ → Reached rest′ later a a₂ × Held rest′ later
+        goes l Got.Failure m e = let z : _≡_ {A = ℕ} 0 1 = cc in absurd (omega arith)
+        goes l Got.End m e = let z : _≡_ {A = ℕ} 0 1 = cc in absurd (omega arith)
+        goes {rest′} l (Got.Bytes b) m e =
+            let w = rw (sym (e .0)) at (e .1) in
+            let u = rw (sym (e .0)) at (e .2) in (
+              reaches rest′ (omega (arith, e .0)) w,
+              record { begins = omega (arith, w .within, length-take (rest′ .end) later); within = omega (arith, e .0, m, kept-short k h); unended = u },
+            )
 
-      pub ends : {a₂ : Areas} (got : Got) → MadeOf got Next.Ended n later a₁ a₂ → IsSession a a₂
-      ends Got.Failure e = let z : _≡_ {A = ℕ} 0 1 = cc in absurd (omega arith)
-      ends Got.End e = record { text = r .text; leaves = e .1 ∙ rw keeps (rw (append-nil, append-nil) at (follows [])) }
-      ends (Got.Bytes b) e = absurd e
+        pub ends : (got : Got) → MadeOf got Next.Ended n later a₁ o o′ a₂ → IsSession a a₂
+        ends Got.Failure e = let z : _≡_ {A = ℕ} 0 1 = cc in absurd (omega arith)
+        ends Got.End e = record { text = r .text; leaves = e .1 .leaves ∙ rw keeps (rw (append-nil, append-nil) at (follows [])) }
+        ends (Got.Bytes b) e = absurd e
 
-      pub fails : {a₂ : Areas} (got : Got) → MadeOf got Next.Failed n later a₁ a₂ → IsSession a a₂
-      fails Got.Failure e = record { text = r .lines; leaves = e .1 ∙ r .leaves }
-      fails Got.End e = let z : _≡_ {A = ℕ} 0 1 = cc in absurd (omega arith)
-      fails (Got.Bytes b) e = record { text = _; leaves = runs (e .went) }
+        pub fails : (got : Got) → MadeOf got Next.Failed n later a₁ o o′ a₂ → IsSession a a₂
+        fails Got.Failure e = record { text = r .lines; leaves = e .1 ∙ r .leaves }
+        fails Got.End e = let z : _≡_ {A = ℕ} 0 1 = cc in absurd (omega arith)
+        fails (Got.Bytes b) e = record { text = _; leaves = runs (e .went) }

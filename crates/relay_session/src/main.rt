@@ -36,7 +36,7 @@ fn turn(
     requires { ⌜ room ≤ length (now out) ⌝ }
     requires { ⌜ held < length (now input) ⌝ }
     requires { ⌜ Unended 0 (take held (now input)) ⌝ }
-    ensures { λ r. ⌜ MadeOf (gotOf answer (length (now (input .entry)) - held)) r held (now (input .entry)) (areas (now (memory .entry)) (now (flash .entry))) (areas (now (memory .exit)) (now (flash .exit))) ⌝ }
+    ensures { λ r. ⌜ MadeOf (gotOf answer (length (now (input .entry)) - held)) r held (now (input .entry)) (areas (now (memory .entry)) (now (flash .entry))) (now (out .entry)) (now (out .exit)) (areas (now (memory .exit)) (now (flash .exit))) ⌝ }
 {
     let got = got_of(answer, &input[held..]);
     run_piece(memory, flash, input, held, got, out)

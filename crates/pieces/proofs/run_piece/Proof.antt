@@ -27,7 +27,7 @@ returns-2 : tie.Need-returns-2
 returns-2 c = rw (c .enum-told .given .1) (refl, refl)
 
 returns-3 : tie.Need-returns-3
-returns-3 c = let ran = c .before .before .before .before .before .before in rw (ran .before .before .before .before .before .enum-told2 .given .1) (refl, ran .run-last .ensures .leaves)
+returns-3 c = let ran = c .before .before .before .before .before .before in rw (ran .before .before .before .before .before .enum-told2 .given .1) (refl, ran .run-last .ensures)
 
 returns-4 : tie.Need-returns-4
 returns-4 c =

@@ -66,14 +66,14 @@ returns c =
     let s = c .before .before .before .before .before .before .before .before in
     let held = at-hold (at-read s) in
     let i = at-loop held .loop .inv in
-    ends (i .4) (held .hold .ensures) (i .5) (at-read s .read-behind .last .0) (at-read s .read-behind .ensures) (gotOf (answer s) (free s)) (rw (c .enum-told .given .1) at (s .turn .ensures))
+    ends (i .4) (held .hold .ensures) (i .5) _ (at-read s .read-behind .ensures) _ _ (gotOf (answer s) (free s)) (rw (c .enum-told .given .1) at (s .turn .ensures))
 
 returns-2 : tie.Need-returns-2 Inv-loop μ-loop
 returns-2 c =
     let s = c .before .before .before .before .before .before .before .before in
     let held = at-hold (at-read s) in
     let i = at-loop held .loop .inv in
-    fails (i .4) (held .hold .ensures) (i .5) (at-read s .read-behind .last .0) (at-read s .read-behind .ensures) (gotOf (answer s) (free s)) (rw (c .enum-told2 .given .1) at (s .turn .ensures))
+    fails (i .4) (held .hold .ensures) (i .5) _ (at-read s .read-behind .ensures) _ _ (gotOf (answer s) (free s)) (rw (c .enum-told2 .given .1) at (s .turn .ensures))
 
 loop-again : tie.Need-loop-again Inv-loop μ-loop
 loop-again c =
@@ -81,7 +81,7 @@ loop-again c =
     let held = at-hold (at-read s) in
     let i = at-loop held .loop .inv in
     let longer = at-loop held .before .before .before .before .before .pre .1 .1 .0 in
-    let g = goes (i .4) (held .hold .ensures) (i .5) (at-read s .read-behind .last .0) (at-read s .read-behind .ensures) (omega (arith, longer)) (gotOf (answer s) (free s)) (got-within (answer s) (free s)) (rw (c .before .next .given .1) at (s .turn .ensures)) in
+    let g = goes (i .4) (held .hold .ensures) (i .5) _ (at-read s .read-behind .ensures) _ _ (omega (arith, longer)) (gotOf (answer s) (free s)) (got-within (answer s) (free s)) (rw (c .before .next .given .1) at (s .turn .ensures)) in
     (omega arith, omega arith, omega arith, omega arith, g .0, g .1)
 
 returns-3 : tie.Need-returns-3 Inv-loop μ-loop
