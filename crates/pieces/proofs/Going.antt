@@ -55,13 +55,14 @@ pub unended-end : (xs : List ℕ) (n : ℕ) → length xs ≤ n → Unended n xs
 unended-end xs n l i g k = absurd (omega arith)
 
 -- ---- the last line
-ran-whole : {line : List ℕ} {a a′ : Areas} {o o′ : List ℕ} {n : ℕ} → Ran line a o n o′ a′ → RanLast line a o o′ a′
-ran-whole {line} {a} {n = n} r = let e : length (linesPrint (linesOf line) a) ≡ n = omega (arith, r .prints .ends) in rw e r
+-- what is printed is as long as the answer
+ran-length : {line : List ℕ} {a a′ : Areas} {o o′ : List ℕ} {n : ℕ} → Ran line a o n o′ a′ → RanLast line a o o′ a′
+ran-length {line} {a} {n = n} r = let e : length (linesPrint (linesOf line) a) ≡ n = omega (arith, r .prints .ends) in rw e r
 
 pub ran-empty : (line : List ℕ) (a : Areas) (o : List ℕ) → length line ≡ 0 → RanLast line a o o a
-ran-empty [] a o e = ran-whole (ran-none a o)
+ran-empty [] a o e = ran-length (ran-none a o)
 ran-empty (x ∷ xs) a o e = absurd (omega arith)
 
 pub ran-last : {line : List ℕ} {a a′ : Areas} {o o′ : List ℕ} {n : ℕ} → Unended 0 line → 0 < length line → Applies line a 0 o n o′ a′ → RanLast line a o o′ a′
 ran-last {line} {a} h l s =
-    ran-whole (record { fits = s .fits; prints = rw (lines-last line l h, print-one line a) (s .prints); leaves = rw (lines-last line l h, leave-one line a) (s .leaves) })
+    ran-length (record { fits = s .fits; prints = rw (lines-last line l h, print-one line a) (s .prints); leaves = rw (lines-last line l h, leave-one line a) (s .leaves) })

@@ -1,4 +1,4 @@
--- What the running of a piece of input promises: what stands in the buffer and in both areas. What was written no contract can say.
+-- What the running of a piece of input promises: what stands in the buffers and in both areas. What was written no contract can say.
 use Prim.Native.Nat.{ℕ, _+_, _≤_, _<_}
 use mathlib.Core.List.{List}
 use mathlib.Core.Path.{_≡_}
@@ -34,11 +34,11 @@ RunsTo end (Next.On rest) input a a′ = (rest .end ≡ end) × Went (rest .at) 
 RunsTo end Next.Ended input a a′ = ⊥
 RunsTo end Next.Failed input a a′ = WentPartly (take end input) a a′
 
--- the last line was run, and its answer stands whole at the start of `later`
+-- the last line was run, and its answer stands whole at the start of the buffer for answers
 abbrev pub RanLast : List ℕ → Areas → List ℕ → List ℕ → Areas → Type 0
 RanLast line a before later a′ = Ran line a before (length (linesPrint (linesOf line) a)) later a′
 
--- what is made of it, behind the bytes held: nothing after a failure; at the end of input, what is held is the last line; bytes that came are run
+-- what is made of what a read told, behind the bytes held: nothing after a failure; at the end of input, what is held is the last line; bytes that came are run
 abbrev pub MadeOf : Got → Next → ℕ → List ℕ → Areas → List ℕ → List ℕ → Areas → Type 0
 MadeOf Got.Failure r held input a before later a′ = (r ≡ Next.Failed) × (a′ ≡ a)
 MadeOf Got.End r held input a before later a′ = (r ≡ Next.Ended) × RanLast (take held input) a before later a′
