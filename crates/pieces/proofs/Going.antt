@@ -7,14 +7,15 @@ use lib.ListN.{length, take, drop, getD, length-drop}
 use lib.Seq.{take-all, take-add, getD-drop}
 use Rattle.model.specs.Bytes.{mid}
 use Rattle.model.specs.Answers.{Areas}
-use Rattle.model.specs.Session.{lineLeaves, linesOf, linesLeave}
-use Rattle.model.proofs.Sessions.{print-none, leave-none, leave-one}
+use Rattle.model.specs.Session.{linesOf, linesPrint}
+use Rattle.model.proofs.Sessions.{print-none, print-one, leave-none, leave-one}
 use Rattle.lines.specs.Lines.{Unended}
-use Rattle.applying.specs.Applies.{room}
+use Rattle.applying.specs.Applies.{room, Applies}
 use Rattle.session.specs.Promises.{Ran, Takes}
 use Rattle.lines.proofs.Lines.{lines-last, whole-none, whole-more}
 use Rattle.session.proofs.Pieces.{leave-pieces}
-use Rattle.pieces.specs.Pieces.{Went}
+use Rattle.session.proofs.Running.{ran-none}
+use Rattle.pieces.specs.Pieces.{Went, RanLast}
 
 pub went-none : (xs : List ℕ) (a : Areas) → Went 0 xs a a
 went-none xs a = record { within = omega arith; whole = whole-none; leaves = sym (leave-none a) }
@@ -54,9 +55,14 @@ pub unended-end : (xs : List ℕ) (n : ℕ) → length xs ≤ n → Unended n xs
 unended-end xs n l i g k = absurd (omega arith)
 
 -- ---- the last line
-pub leaves-none : (line : List ℕ) (a : Areas) → length line ≡ 0 → a ≡ linesLeave (linesOf line) a
-leaves-none [] a e = sym (leave-none a)
-leaves-none (x ∷ xs) a e = absurd (omega arith)
+-- what is printed is as long as the answer
+ran-length : {line : List ℕ} {a a′ : Areas} {o o′ : List ℕ} {n : ℕ} → Ran line a o n o′ a′ → RanLast line a o o′ a′
+ran-length {line} {a} {n = n} r = let e : length (linesPrint (linesOf line) a) ≡ n = omega (arith, r .prints .ends) in rw e r
 
-pub leaves-last : (line : List ℕ) (a a′ : Areas) → Unended 0 line → 0 < length line → a′ ≡ lineLeaves line a → a′ ≡ linesLeave (linesOf line) a
-leaves-last line a a′ h l e = rw (lines-last line l h, leave-one line a) e
+pub ran-empty : (line : List ℕ) (a : Areas) (o : List ℕ) → length line ≡ 0 → RanLast line a o o a
+ran-empty [] a o e = ran-length (ran-none a o)
+ran-empty (x ∷ xs) a o e = absurd (omega arith)
+
+pub ran-last : {line : List ℕ} {a a′ : Areas} {o o′ : List ℕ} {n : ℕ} → Unended 0 line → 0 < length line → Applies line a 0 o n o′ a′ → RanLast line a o o′ a′
+ran-last {line} {a} h l s =
+    ran-length (record { fits = s .fits; prints = rw (lines-last line l h, print-one line a) (s .prints); leaves = rw (lines-last line l h, leave-one line a) (s .leaves) })

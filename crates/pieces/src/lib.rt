@@ -1,13 +1,11 @@
 // A piece of input, run: its whole lines, or the last line, with their answers to standard output.
-ghost use mathlib.Core.Path.{_≡_};
 ghost use Prim.Native.Nat.{_-_, _≤_};
 ghost use lib.ListN.{length, take};
-ghost use Rattle.model.specs.Session.{linesOf, linesLeave};
 ghost use Rattle.answers.specs.Performs.{areas};
 ghost use Rattle.lines.specs.Lines.{Unended};
 ghost use Rattle.applying.specs.Applies.{room};
 ghost use Rattle.held.specs.Held.{Within};
-ghost use Rattle.pieces.specs.Pieces.{WentOn, MadeOf};
+ghost use Rattle.pieces.specs.Pieces.{WentOn, RanLast, MadeOf};
 use held::Got;
 use held::Rest;
 use libc::STDOUT_FILENO;
@@ -50,7 +48,7 @@ fn run_whole(memory: &mut [u8], flash: &mut [u8], input: &[u8], out: &mut [u8]) 
 fn run_last(memory: &mut [u8], flash: &mut [u8], line: &[u8], out: &mut [u8])
     requires { ⌜ room ≤ length (now out) ⌝ }
     requires { ⌜ Unended 0 (now line) ⌝ }
-    ensures { λ _. ⌜ areas (now (memory .exit)) (now (flash .exit)) ≡ linesLeave (linesOf (now (line .entry))) (areas (now (memory .entry)) (now (flash .entry))) ⌝ }
+    ensures { λ _. ⌜ RanLast (now (line .entry)) (areas (now (memory .entry)) (now (flash .entry))) (now (out .entry)) (now (out .exit)) (areas (now (memory .exit)) (now (flash .exit))) ⌝ }
 {
     if line.len() == 0 {
         return;
@@ -74,7 +72,7 @@ pub fn run_piece(
     requires { ⌜ held ≤ length (now input) ⌝ }
     requires { ⌜ Unended 0 (take held (now input)) ⌝ }
     requires { ⌜ Within got (length (now input) - held) ⌝ }
-    ensures { λ r. ⌜ MadeOf got r held (now (input .entry)) (areas (now (memory .entry)) (now (flash .entry))) (areas (now (memory .exit)) (now (flash .exit))) ⌝ }
+    ensures { λ r. ⌜ MadeOf got r held (now (input .entry)) (areas (now (memory .entry)) (now (flash .entry))) (now (out .entry)) (now (out .exit)) (areas (now (memory .exit)) (now (flash .exit))) ⌝ }
 {
     match got {
         Got::Failure => Next::Failed,

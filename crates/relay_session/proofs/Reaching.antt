@@ -14,10 +14,9 @@ use Rattle.session.proofs.Pieces.{leave-pieces}
 use Rattle.held.specs.declared.Rest.{Rest}
 use Rattle.held.specs.declared.Got.{Got}
 use Rattle.pieces.specs.declared.Next.{Next}
-use Rattle.held.specs.Held.{Held, heldBytes, AtStart, gotOf, Within}
+use Rattle.held.specs.Held.{Held, heldBytes, AtStart, Within}
 use Rattle.pieces.specs.Pieces.{Went, MadeOf}
-use Rattle.relay_session.specs.Steps.{Turned, IsSession}
-use Rattle.held.proofs.Getting.{got-within}
+use Rattle.relay_session.specs.Session.{IsSession}
 use Rattle.held.proofs.Holding.{kept-short, kept-same}
 
 -- The lines were run on a and left a′. There the bytes that are held do what the whole text does on a, whatever follows.
@@ -50,46 +49,41 @@ module _ {rest : Rest} {xs : List ℕ} {a a₁ : Areas} (r : Reached rest xs a a
     follows : (more : List ℕ) → linesLeave (linesOf (take n ys ++ more)) a₁ ≡ linesLeave (linesOf (r .text ++ more)) a
     follows more = kept-same k h .leaves more a₁ ∙ r .carries more
 
-    -- the bytes up to `end` are those held and a piece
-    pieces : (later : List ℕ) → take n later ≡ take n ys → (end : ℕ) → n ≤ end → take end later ≡ take n ys ++ drop n (take end later)
-    pieces later keeps end l = sym (take-append-drop n (take end later)) ∙ ap (λ (zs : List ℕ). zs ++ drop n (take end later)) (take-take n end later l ∙ keeps)
+    -- a read left these bytes as they were
+    module _ (later : List ℕ) (keeps : take n later ≡ take n ys) where
+      -- the bytes up to `end` are those held and a piece
+      pieces : (end : ℕ) → n ≤ end → take end later ≡ take n ys ++ drop n (take end later)
+      pieces end l = sym (take-append-drop n (take end later)) ∙ ap (λ (zs : List ℕ). zs ++ drop n (take end later)) (take-take n end later l ∙ keeps)
 
-    reaches : (later : List ℕ) → take n later ≡ take n ys → (rest′ : Rest) → n ≤ rest′ .end → {a₂ : Areas} → Went (rest′ .at) (take (rest′ .end) later) a₁ a₂ → Reached rest′ later a a₂
-    reaches later keeps rest′ l w =
-        let piece : List ℕ = drop n (take (rest′ .end) later) in
-        record {
-          lines = r .lines ++ take (rest′ .at) (take (rest′ .end) later);
-          whole = whole-more (r .lines) _ (r .whole) (w .whole);
-          leaves = runs w;
-          text = r .text ++ piece;
-          carries = λ more. goes-on w more ∙ ap (λ (zs : List ℕ). linesLeave (linesOf (zs ++ more)) a₁) (pieces later keeps (rest′ .end) l) ∙ rw (append-assoc (take n ys), append-assoc (r .text)) (follows (piece ++ more));
-        }
+      reaches : (rest′ : Rest) → n ≤ rest′ .end → {a₂ : Areas} → Went (rest′ .at) (take (rest′ .end) later) a₁ a₂ → Reached rest′ later a a₂
+      reaches rest′ l w =
+          let piece : List ℕ = drop n (take (rest′ .end) later) in
+          record {
+            lines = r .lines ++ take (rest′ .at) (take (rest′ .end) later);
+            whole = whole-more (r .lines) _ (r .whole) (w .whole);
+            leaves = runs w;
+            text = r .text ++ piece;
+            carries = λ more. goes-on w more ∙ ap (λ (zs : List ℕ). linesLeave (linesOf (zs ++ more)) a₁) (pieces (rest′ .end) l) ∙ rw (append-assoc (take n ys), append-assoc (r .text)) (follows (piece ++ more));
+          }
 
-    pub goes : {rest′ : Rest} {later : List ℕ} {a₂ : Areas} → longest < length later → Turned (Next.On rest′) n ys a₁ later a₂ → Reached rest′ later a a₂ × Held rest′ later
-    goes {rest′} {later} {a₂} l t = go (gotOf (t .answer) (length later - n)) (got-within (t .answer) (length later - n)) (t .made)
-      where
-        go : (got : Got) → Within got (length later - n) → MadeOf got (Next.On rest′) n later a₁ a₂ → Reached rest′ later a a₂ × Held rest′ later
-        go Got.Failure m t = let z : _≡_ {A = ℕ} 0 1 = cc in absurd (omega arith)
-        go Got.End m t = let z : _≡_ {A = ℕ} 0 1 = cc in absurd (omega arith)
-        go (Got.Bytes b) m e =
+      -- what the read told, and what was made of it
+      module _ (o o′ : List ℕ) {a₂ : Areas} where
+        pub goes : {rest′ : Rest} → longest < length later → (got : Got) → Within got (length later - n) → MadeOf got (Next.On rest′) n later a₁ o o′ a₂ → Reached rest′ later a a₂ × Held rest′ later
+        goes l Got.Failure m e = let z : _≡_ {A = ℕ} 0 1 = cc in absurd (omega arith)
+        goes l Got.End m e = let z : _≡_ {A = ℕ} 0 1 = cc in absurd (omega arith)
+        goes {rest′} l (Got.Bytes b) m e =
             let w = rw (sym (e .0)) at (e .1) in
             let u = rw (sym (e .0)) at (e .2) in (
-              reaches later (t .keeps) rest′ (omega (arith, e .0)) w,
+              reaches rest′ (omega (arith, e .0)) w,
               record { begins = omega (arith, w .within, length-take (rest′ .end) later); within = omega (arith, e .0, m, kept-short k h); unended = u },
             )
 
-    pub ends : {later : List ℕ} {a₂ : Areas} → Turned Next.Ended n ys a₁ later a₂ → IsSession a a₂
-    ends {later} {a₂} t = go (gotOf (t .answer) (length later - n)) (t .made)
-      where
-        go : (got : Got) → MadeOf got Next.Ended n later a₁ a₂ → IsSession a a₂
-        go Got.Failure e = let z : _≡_ {A = ℕ} 0 1 = cc in absurd (omega arith)
-        go Got.End e = record { text = r .text; leaves = e .1 ∙ rw (t .keeps) (rw (append-nil, append-nil) at (follows [])) }
-        go (Got.Bytes b) e = absurd e
+        pub ends : (got : Got) → MadeOf got Next.Ended n later a₁ o o′ a₂ → IsSession a a₂
+        ends Got.Failure e = let z : _≡_ {A = ℕ} 0 1 = cc in absurd (omega arith)
+        ends Got.End e = record { text = r .text; leaves = e .1 .leaves ∙ rw keeps (rw (append-nil, append-nil) at (follows [])) }
+        ends (Got.Bytes b) e = absurd e
 
-    pub fails : {later : List ℕ} {a₂ : Areas} → Turned Next.Failed n ys a₁ later a₂ → IsSession a a₂
-    fails {later} {a₂} t = go (gotOf (t .answer) (length later - n)) (t .made)
-      where
-        go : (got : Got) → MadeOf got Next.Failed n later a₁ a₂ → IsSession a a₂
-        go Got.Failure e = record { text = r .lines; leaves = e .1 ∙ r .leaves }
-        go Got.End e = let z : _≡_ {A = ℕ} 0 1 = cc in absurd (omega arith)
-        go (Got.Bytes b) e = record { text = _; leaves = runs (e .went) }
+        pub fails : (got : Got) → MadeOf got Next.Failed n later a₁ o o′ a₂ → IsSession a a₂
+        fails Got.Failure e = record { text = r .lines; leaves = e .1 ∙ r .leaves }
+        fails Got.End e = let z : _≡_ {A = ℕ} 0 1 = cc in absurd (omega arith)
+        fails (Got.Bytes b) e = record { text = _; leaves = runs (e .went) }

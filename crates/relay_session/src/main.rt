@@ -1,12 +1,14 @@
 // The session program: forms from standard input, one a line, over two areas of 32,768 zero bytes; answers to standard output.
 ghost use mathlib.Core.Path.{_≡_};
-ghost use Prim.Native.Nat.{_≤_, _<_};
+ghost use Prim.Native.Nat.{_-_, _≤_, _<_};
 ghost use lib.ListN.{length, take};
 ghost use Rattle.model.specs.Session.{zeroArea, programAreas};
 ghost use Rattle.answers.specs.Performs.{areas};
 ghost use Rattle.lines.specs.Lines.{Unended, longest};
 ghost use Rattle.applying.specs.Applies.{room};
-ghost use Rattle.relay_session.specs.Steps.{Turned, IsSession};
+ghost use Rattle.held.specs.Held.{gotOf};
+ghost use Rattle.pieces.specs.Pieces.{MadeOf};
+ghost use Rattle.relay_session.specs.Session.{IsSession};
 use held::Rest;
 use held::got_of;
 use held::hold;
@@ -22,14 +24,20 @@ fn area() -> [u8; 32768]
     [0; 32768]
 }
 
-// Reads a piece behind the unfinished line that is held, and goes on from there. There is free room, so an answer of 0 is the end of input.
-fn turn(memory: &mut [u8], flash: &mut [u8], input: &mut [u8], held: usize, out: &mut [u8]) -> Next
+// Goes on from the answer of a read behind the unfinished line that is held. There was free room, so an answer of 0 is the end of input.
+fn turn(
+    memory: &mut [u8],
+    flash: &mut [u8],
+    input: &[u8],
+    held: usize,
+    answer: isize,
+    out: &mut [u8],
+) -> Next
     requires { ⌜ room ≤ length (now out) ⌝ }
     requires { ⌜ held < length (now input) ⌝ }
     requires { ⌜ Unended 0 (take held (now input)) ⌝ }
-    ensures { λ r. ⌜ Turned r held (now (input .entry)) (areas (now (memory .entry)) (now (flash .entry))) (now (input .exit)) (areas (now (memory .exit)) (now (flash .exit))) ⌝ }
+    ensures { λ r. ⌜ MadeOf (gotOf answer (length (now (input .entry)) - held)) r held (now (input .entry)) (areas (now (memory .entry)) (now (flash .entry))) (now (out .entry)) (now (out .exit)) (areas (now (memory .exit)) (now (flash .exit))) ⌝ }
 {
-    let answer = read_behind(input, held);
     let got = got_of(answer, &input[held..]);
     run_piece(memory, flash, input, held, got, out)
 }
@@ -46,7 +54,8 @@ fn run(memory: &mut [u8], flash: &mut [u8], input: &mut [u8], out: &mut [u8])
     let mut turns = u64::MAX;
     while turns > 0 {
         let held = hold(input, rest);
-        match turn(memory, flash, input, held, out) {
+        let answer = read_behind(input, held);
+        match turn(memory, flash, input, held, answer, out) {
             Next::On(next) => rest = next,
             Next::Ended => return,
             Next::Failed => return,

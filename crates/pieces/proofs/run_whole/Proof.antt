@@ -43,7 +43,7 @@ returns c =
     let r = at-run (c .before .before .before .before) in
     let t = r .run-lines .ensures in
     let w = at-loop r .loop .inv .3 in
-    record { taken = _; went = went-more _ _ (w .within) _ _ _ (t .0) w (t .1) }
+    record { taken = at-loop r .loop .taken + r .run-lines .result .taken; some = omega arith; went = went-more _ _ (w .within) _ _ _ (t .0) w (t .1) }
 
 inside : (c : tie.After-struct-known2 Inv-loop μ-loop) → let r = at-run (c .before .before .before .before .before) in at-loop r .loop .taken + r .run-lines .result .taken ≤ length (at-loop r .before .before .before .before .before .args .input .now)
 inside c =
