@@ -64,15 +64,17 @@ module _ (a : Areas) (h : History) (inv : InStep a h) (k : ℕ) (hk : k < 2 ^ 64
       let less : eqb (length (s .list)) (g .list) ≡ false = simp must at free in
       omega (numbers, inv .good .core .parts t .listFits)
 
-  pub del-keeps : checks a (del k) ≡ none → InStep (effect a (del k)) (withKey k none h)
-  del-keeps e =
+  pub del-kept : checks a (del k) ≡ none → InStepBy (effect a (del k)) (withKey k none h) (modify t (deletedPart g k) (inv .table))
+  del-kept e =
       let now = del-counted g (inv .shows .ok) t _ _ s was part k hk (free-place e) in
       rw (effect-del a g (inv .shows .geometry) k) (record {
-        table = modify t (deletedPart g k) (inv .table);
         shows = kept-shown a h inv t below (deleted g k) (deletedPart g k) now;
         counted = changed-counted a h inv t below (deleted g k) (deletedPart g k) _ now;
         good = good-del (inv .table) h (inv .good) k below (free-place e);
       })
+
+  pub del-keeps : checks a (del k) ≡ none → InStep (effect a (del k)) (withKey k none h)
+  del-keeps e = by-table (del-kept e)
 
   module _ (v : ℕ) (hv : v < 2 ^ 64) where
     is-due : due g k (partition g t (a .memory)) ≡ dueIn g k s
