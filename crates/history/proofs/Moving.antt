@@ -18,12 +18,12 @@ use Rattle.model.specs.PartitionText.{partitionText}
 use Rattle.model.specs.Calls.{format, get, text, reply, after, run}
 use Rattle.model.specs.Session.{linesOf, linesLeave}
 use Rattle.model.proofs.Sizes.{page-of-lt}
-use Rattle.model.proofs.Calls.{result-format, result-text, reply-accepted}
+use Rattle.model.proofs.Calls.{result-format, result-text, reply-accepted, after-done}
 use Rattle.model.proofs.Answering.{found-stands}
 use Rattle.history.specs.History.{Known, History, blank, events, remember}
 use Rattle.history.specs.Claim.{isRefused, said, valueOf}
 use Rattle.history.specs.Moving.{AllTaken, Moves, TextMoves}
-use Rattle.history.proofs.FromFormat.{outcome}
+use Rattle.history.proofs.FromFormat.{not-refused}
 use Rattle.history.proofs.Checking.{text-checks}
 use Rattle.history.proofs.InStep.{InStep, by-table, format-kept}
 use Rattle.history.proofs.Positions.{AllPositions, all-positions}
@@ -37,9 +37,9 @@ use Rattle.history.proofs.ReplayText.{InText, ends-text}
 
 -- a fresh table stands at the start
 fresh : (g : Geometry) (t : ℕ) (values : ℕ → Option ℕ) (b : Areas) → isRefused (reply b (format g)) ≡ false → At g t values 0 0 0 (after b (format g)) (blank g)
-fresh g t values b = outcome b (format g) 0 (λ b′ x. isRefused x ≡ false → At g t values 0 0 0 b′ (blank g)) (result-format b g)
-    (λ m r e. absurd (false≢true (sym e)))
-    (λ passed e. record {
+fresh g t values b e =
+    let passed = not-refused b (format g) e in
+    rw (after-done b (format g) passed 0 (result-format b g)) (record {
       inStep = by-table (format-kept b g passed);
       sameGeometry = refl;
       part = record { few = omega arith; here = λ e. omega arith; ahead = λ e r l. refl };
