@@ -43,7 +43,7 @@ module _ (a : Areas) (h : History) (inv : InStep a h) where
 
     answers : reply a (get k) ≡ lookedUp g k s (find k (s .list)) (find k (s .buffer (pageOf g k)))
     answers =
-        reply-accepted a (get k) (get-checks a g (inv .table) (inv .shows) (inv .counted) (inv .good .core .parts) k hk)
+        reply-accepted a (get k) (get-checks inv k hk)
         ∙ result-get a g (inv .shows .geometry) k
         ∙ sought-shown g (inv .shows .ok) k _ (a .flash) s shown within
 

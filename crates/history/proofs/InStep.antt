@@ -72,8 +72,8 @@ module _ (a : Areas) (h : History) (inv : InStep a h) where
     counted-at = record { shown = inv .shows .part t below; total = inv .counted t below }
 
     -- a flush number that is left
-    pub next-number : eqb (flushesOf (partition g t (a .memory))) lastFlush ≡ false → flushesOf (partition g t (a .memory)) + 1 < 2 ^ 32
-    next-number e = omega (numbers, inv .shows .part t below .words .flushes)
+    pub next-number : eqb (inv .table t .flushes) lastFlush ≡ false → flushesOf (partition g t (a .memory)) + 1 < 2 ^ 32
+    next-number e = omega (numbers, inv .shows .part t below .flushes, inv .shows .part t below .words .flushes)
 
     -- partition t changed, and flash as it was or with its batch written
     module _ (c : List ℕ → List ℕ) (c′ : Part → Part) where
@@ -98,7 +98,7 @@ module _ (a : Areas) (h : History) (inv : InStep a h) where
       let p : List ℕ = partition g t (a .memory) in
       let passed = flush-accepted g t p (a .flash) (sym (checks-flush a g own (shows-opens a g (inv .table) (inv .shows)) t) ∙ e) in
       let below = passed .0 in
-      let more = next-number t below (due-accepted g t 0 p (a .flash) (passed .4) .0) in
+      let more = next-number t below (rw (inv .shows .part t below .flushes) at (due-accepted g t 0 p (a .flash) (passed .4) .0)) in
       let now = flush-counted g (inv .shows .ok) t p (a .flash) (inv .table t) (counted-at t below) (inv .good .core .parts t) below (inv .shows .flashFits) more in
       rw (effect-flush a g own t) (record {
         shows = written-shown t below (flushIn g t (a .flash)) (flushedPart g) now;

@@ -22,8 +22,8 @@ pub mod Areas
 pub mod Formatting
 pub mod Reading
 pub mod Following
-pub mod Checking
 pub mod InStep
+pub mod Checking
 pub mod Keyed
 pub mod Step
 pub mod Demand

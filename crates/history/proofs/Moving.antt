@@ -69,7 +69,7 @@ module _ (a : Areas) (h : History) (inv : InStep a h) (positions : AllPositions 
 
   told : (room : ℕ) → length (partitionText g t p (a .flash)) ≤ room → reply a (text t room) ≡ done (length (partitionText g t p (a .flash)))
   told room l =
-      reply-accepted a (text t room) (text-checks a g (inv .table) (inv .shows) (inv .counted) (inv .good .core .parts) t inside room ∙ rw (le-ltb room (length (partitionText g t p (a .flash))) l))
+      reply-accepted a (text t room) (text-checks inv t inside room ∙ rw (le-ltb room (length (partitionText g t p (a .flash))) l))
       ∙ result-text a g (inv .shows .geometry) t room
 
   -- a key that a get finds has a line
