@@ -1,6 +1,7 @@
 pub mod FromFormat
 pub mod Positions
 pub mod Modify
+pub mod Bare
 pub mod Table
 pub mod Told
 pub mod Core

@@ -14,7 +14,8 @@ use Rattle.model.specs.Answers.{Answer, found, absent, tally, batch}
 use Rattle.model.proofs.Tests.{either}
 use Rattle.model.proofs.Tables.{find, passesIn}
 use Rattle.model.proofs.Passing.{passes-found, not-passed}
-use Rattle.history.specs.Claim.{said, readsOf}
+use Rattle.history.specs.Claim.{readsOf}
+use Rattle.history.proofs.Bare.{value, nothing, bare}
 use Rattle.history.proofs.Table.{Part, Live, passingFrom, passing}
 
 -- what batch n holds of the key
@@ -97,15 +98,15 @@ module _ (g : Geometry) (k : ℕ) (p : Part) where
           | no e ↦ skipped count (n - 1) m (omega arith) (omega arith) (simp w at above)
         ])
 
-    -- a walk finds the youngest
+    -- a walk finds the youngest, and says where
     pub walk-finds : (count n m v reads : ℕ) → m ≤ n → n < m + count → lookIn g k p m ≡ some v
-        → ((b : ℕ) → m < b → b ≤ n → lookIn g k p b ≡ none) → said (walk (lookIn g k p) (passingFrom g k p count n) reads) ≡ some (some v)
+        → ((b : ℕ) → m < b → b ≤ n → lookIn g k p b ≡ none) → bare (walk (lookIn g k p) (passingFrom g k p count n) reads) ≡ value v (batch m)
     unfolding walk passingFrom
     walk-finds zero n m v reads l h here silent = absurd (omega arith)
     walk-finds (suc count) n m v reads l h here silent = elim (ℕ-discrete m n) [
       | yes e ↦
           (let here′ : find k (p .batch n (pageOf g k)) ≡ some v = rw e at here in
-          simp (passes-found g k (p .batch n) (pageOf g k) inside v here′, here′))
+          rw e (simp (passes-found g k (p .batch n) (pageOf g k) inside v here′, here′)))
       | no e ↦ either (passesIn g (p .batch n) k)
           (λ w. simp (w, silent n (omega arith) (omega arith))
           (walk-finds count (n - 1) m v (reads + 1) (omega arith) (omega arith) here (λ b x y. silent b x (omega arith))))
@@ -114,7 +115,7 @@ module _ (g : Geometry) (k : ℕ) (p : Part) where
     ]
 
     pub walk-misses : (count n reads : ℕ) → count ≤ n → ((b : ℕ) → n < b + count → b ≤ n → lookIn g k p b ≡ none)
-        → said (walk (lookIn g k p) (passingFrom g k p count n) reads) ≡ some none
+        → bare (walk (lookIn g k p) (passingFrom g k p count n) reads) ≡ nothing
     unfolding walk passingFrom
     walk-misses zero n reads f silent = refl
     walk-misses (suc count) n reads f silent = either (passesIn g (p .batch n) k)
