@@ -1,4 +1,4 @@
--- A get's answer follows from the batches that it reads, on areas of any content.
+-- A get's answer follows from the batches that it reads, or from the buffer page, on areas of any content.
 use Prim.Native.Nat.{ℕ, zero, suc, _+_, _-_}
 use mathlib.Core.Bool.{Bool, true, false, cond, not, _&&_}
 use mathlib.Core.Path.{_≡_, refl}
@@ -50,16 +50,16 @@ module _ (a : Areas) (k : ℕ) where
       (expected g (partitionOf g k) n (pageOf g k) (page n)) (searched k (page n)) refl))
       (λ skipped. simp skipped (walked count (n - 1) reads before lacking))
 
-  in-buffer : (o : Option ℕ) → Follows a k (hitIn (bufferOf g p (pageOf g k)) 0 buffer o (readThrough g k (a .flash) (passing g k p) 0))
+  in-buffer : (o : Option ℕ) → searched k (bufferOf g p (pageOf g k)) ≡ o → Follows a k (hitIn (bufferOf g p (pageOf g k)) 0 buffer o (readThrough g k (a .flash) (passing g k p) 0))
       (cond (isSome o) [] (readOf g k (a .flash) (passing g k p)))
   unfolding passing
-  in-buffer (some i) = refl
-  in-buffer none = walked (liveOf p) (flushesOf p) 0 [] tt
+  in-buffer (some i) e = (refl, rw e)
+  in-buffer none e = walked (liveOf p) (flushesOf p) 0 [] tt
 
   in-list : (o : Option ℕ) → listedAt (listedOf p) k (listOf g p) ≡ o → Follows a k (sought g k p (a .flash)) (readBy a k)
   unfolding batchesRead
   in-list (some i) e = rw (sought-listed g k (a .flash) p i e, e) tt
-  in-list none e = rw (sought-unlisted g k (a .flash) p e, e) (in-buffer (searched k (bufferOf g p (pageOf g k))))
+  in-list none e = rw (sought-unlisted g k (a .flash) p e, e) (in-buffer (searched k (bufferOf g p (pageOf g k))) refl)
 
   pub follows : Follows a k (reply a (get k)) (readBy a k)
   follows = go (checks a (get k)) refl
