@@ -29,13 +29,20 @@ not-refused a c e = go (checks a c) refl
 
 -- P of what a call leaves, and of what is heard of it
 module _ (a : Areas) (c : Call) (P : Areas → Event → Type 0) where
-  -- a refused call leaves all, and one that is done its effect
+  -- a refused call leaves all
+  pub refused-leaves : (r : Refusal) → checks a c ≡ some r → P a turnedDown → P (after a c) (heard c (reply a c))
+  refused-leaves r e turned = rw (after-refused a c r e, reply-refused a c r e) turned
+
+  -- one that is done leaves its effect
+  pub done-leaves : (n : ℕ) → result a c ≡ done n → checks a c ≡ none → P (effect a c) (accepted c n) → P (after a c) (heard c (reply a c))
+  done-leaves n ends e kept = rw (after-done a c e n ends, reply-accepted a c e, ends) kept
+
   pub call-leaves : (n : ℕ) → result a c ≡ done n → P a turnedDown → (checks a c ≡ none → P (effect a c) (accepted c n)) → P (after a c) (heard c (reply a c))
   call-leaves n ends turned kept = go (checks a c) refl
     where
       go : (o : Option Refusal) → checks a c ≡ o → P (after a c) (heard c (reply a c))
-      go (some r) e = rw (after-refused a c r e, reply-refused a c r e) turned
-      go none e = rw (after-done a c e n ends, reply-accepted a c e, ends) (kept e)
+      go (some r) e = refused-leaves r e turned
+      go none e = done-leaves n ends e (kept e)
 
   -- get, view, count and text leave all, whatever they answer
   pub look-leaves : ((n : ℕ) → accepted c n ≡ looking) → effect a c ≡ a → P a turnedDown → P a looking → P (after a c) (heard c (reply a c))
@@ -47,7 +54,7 @@ module _ (P : Areas → History → Type 0) (formatted : (a : Areas) (g : Geomet
   unfolding note
   start a h g e =
       let passed = not-refused a (format g) e in
-      rw (after-done a (format g) passed 0 (result-format a g), reply-accepted a (format g) passed, result-format a g) (formatted a g passed)
+      done-leaves a (format g) (λ a′ x. P a′ (note h x)) 0 (result-format a g) passed (formatted a g passed)
 
   along : (cs : List Call) → AllFit cs → (a : Areas) (h : History) → P a h → P (run a cs) (remember h (events a cs))
   unfolding run remember events
