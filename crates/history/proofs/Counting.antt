@@ -14,7 +14,7 @@ use Rattle.history.proofs.Demand.{in-step}
 counts : (a : Areas) (h : History) → InStep a h → Counts a h
 counts a h inv t below =
     let g = h .geometry in
-    reply-accepted a (count t) (count-checks a g (inv .table) (inv .shows) (inv .counted) (inv .good .core .parts) t below)
+    reply-accepted a (count t) (count-checks inv t below)
     ∙ result-count a g (inv .shows .geometry) t
     ∙ rw (inv .shows .geometry) (ap done (inv .counted t below ∙ sym (held-shown g (inv .shows .ok) t _ _ _ (inv .shows .part t below) (inv .good .core .parts t))))
 

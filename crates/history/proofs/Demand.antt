@@ -1,6 +1,6 @@
 -- Demand 3: an accepted format brings areas and history in step, every call keeps them so, and what holds then is the claim.
 use Prim.Native.Nat.{ℕ, suc, _^_, _≤_, _<_}
-use mathlib.Core.Path.{_≡_, refl, sym, _∙_}
+use mathlib.Core.Path.{_≡_, refl, sym, _∙_, ap}
 use mathlib.Core.List.{_∷_}
 use mathlib.Core.Option.{some}
 use native.Mathlib.Omega.{arith}
@@ -16,9 +16,10 @@ use Rattle.history.specs.History.{History, events, remember}
 use Rattle.history.specs.Reads.{readBy}
 use Rattle.history.specs.Claim.{said, valueOf, Right, Holds, FromFormat, Demand3}
 use Rattle.history.proofs.FromFormat.{from-format}
+use Rattle.history.proofs.Bare.{bare, saidOf, said-bare, bareOf, said-known}
 use Rattle.history.proofs.Table.{Part}
 use Rattle.history.proofs.Walk.{live-count}
-use Rattle.history.proofs.Get.{lookedUp, batchesFor, lookedUp-says, lookedUp-reads, batches-live}
+use Rattle.history.proofs.Get.{lookedUp, batchesFor, lookedUp-bare, lookedUp-reads, batches-live}
 use Rattle.history.proofs.Shows.{ShowsPart}
 use Rattle.history.proofs.Reading.{sought-shown, read-shown, live-falling}
 use Rattle.history.proofs.Following.{follows}
@@ -43,17 +44,21 @@ module _ (a : Areas) (h : History) (inv : InStep a h) where
 
     answers : reply a (get k) ≡ lookedUp g k s (find k (s .list)) (find k (s .buffer (pageOf g k)))
     answers =
-        reply-accepted a (get k) (get-checks a g (inv .table) (inv .shows) (inv .counted) (inv .good .core .parts) k hk)
+        reply-accepted a (get k) (get-checks inv k hk)
         ∙ result-get a g (inv .shows .geometry) k
         ∙ sought-shown g (inv .shows .ok) k _ (a .flash) s shown within
 
     reads : readBy a k ≡ batchesFor g k s (find k (s .list)) (find k (s .buffer (pageOf g k)))
     reads = rw (inv .shows .geometry) (read-shown g (inv .shows .ok) k _ (a .flash) s shown within)
 
-    pub says : said (reply a (get k)) ≡ some (valueOf (h .keys k))
-    says =
+    -- the value, and the place that its age tells
+    pub placed : bare (reply a (get k)) ≡ bareOf (s .flushes) (h .keys k)
+    placed =
         rw answers
-        (lookedUp-says g k s within (page-of-lt g (inv .shows .ok) k) (find k (s .list)) (find k (s .buffer (pageOf g k))) (h .keys k) refl (inv .good .core .keys k))
+        (lookedUp-bare g k s within (page-of-lt g (inv .shows .ok) k) (find k (s .list)) (find k (s .buffer (pageOf g k))) (h .keys k) refl (inv .good .core .keys k))
+
+    pub says : said (reply a (get k)) ≡ some (valueOf (h .keys k))
+    says = said-bare (reply a (get k)) ∙ ap saidOf placed ∙ said-known (s .flushes) (h .keys k)
 
     right : AllPositions h → Right a h k
     right positions =

@@ -1,5 +1,5 @@
 -- While areas and history are in step, every live batch's filter has exactly the bits of the one made of its pages, and every stamp is a live batch.
-use Prim.Native.Nat.{ℕ, zero, suc, _+_, _-_, _*_, _≤_, _<_}
+use Prim.Native.Nat.{ℕ, zero, suc, _+_, _*_, _≤_, _<_}
 use mathlib.Core.Bool.{true}
 use mathlib.Core.Path.{_≡_, refl, sym, _∙_, ap}
 use mathlib.Core.List.{List}
@@ -20,7 +20,6 @@ use Rattle.model.specs.Batch.{batchPage}
 use Rattle.model.specs.Calls.{geometryIn, partitionIn}
 use Rattle.model.proofs.Tests.{either}
 use Rattle.model.proofs.Tables.{find, Distinct}
-use Rattle.model.proofs.Sizes.{sizes}
 use Rattle.model.proofs.FilterBits.{set-filterFor}
 use Rattle.model.proofs.Passing.{bits-same}
 use Rattle.model.proofs.Entries.{entriesFrom}
@@ -56,7 +55,7 @@ module _ (a : Areas) (h : History) (inv : InStep a h) (t : ℕ) (below : t < par
       rw (inv .shows .geometry)
       (at .filter n b live (rw (inv .shows .geometry) at inside)
       ∙ sym (bits-same g _ (inv .table t .batch n) (λ q m. at .batch n live q m .page .entries) b)
-      ∙ sym (set-filterFor g (sizes g (inv .shows .ok) .bits-is) (omega (arith, sizes g (inv .shows .ok) .bits-min)) b (batchPage g t (a .flash) n)))
+      ∙ sym (set-filterFor g (inv .shows .ok) b (batchPage g t (a .flash) n)))
 
   pub stamps-live : (i : ℕ) → i < listedOf (partitionIn a t) → isLive (headOf (partitionIn a t)) (stampAt (listOf (geometryIn a) (partitionIn a t)) i) ≡ true
   stamps-live i l =

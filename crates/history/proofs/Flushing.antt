@@ -44,7 +44,7 @@ module _ (g : Geometry) (ok : allowed g ≡ true) (t : ℕ) (below : t < partiti
   new-bits : (b : ℕ) → bits (slot g (flushesOf p + 1)) b ≡ hasBit g (s .buffer) b
   new-bits b =
       ap (λ (x : ℕ → Bool). x b) (modify-at (slot g (flushesOf p + 1)) _ _ _ refl)
-      ∙ set-filterFor g (sizes g ok .bits-is) (omega (arith, sizes g ok .bits-min)) b (bufferOf g p)
+      ∙ set-filterFor g ok b (bufferOf g p)
       ∙ bits-same g _ (s .buffer) (λ q m. shows .buffer q m .entries) b
 
   -- a batch that stays live was live, and has a slot of its own

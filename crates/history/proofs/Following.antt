@@ -1,5 +1,5 @@
--- A get's answer follows from the batches that it reads, on areas of any content.
-use Prim.Native.Nat.{ℕ, zero, suc, _+_, _-_}
+-- A get's answer follows from the batches that it reads, or from the buffer page, on areas of any content.
+use Prim.Native.Nat.{ℕ, zero, suc, _-_}
 use mathlib.Core.Bool.{Bool, true, false, cond, not, _&&_}
 use mathlib.Core.Path.{_≡_, refl}
 use mathlib.Core.List.{List, [], _∷_, _++_, append-assoc, append-nil}
@@ -10,7 +10,7 @@ use Rattle.model.specs.Keys.{partitionOf, pageOf}
 use Rattle.model.specs.Page.{searched, expected}
 use Rattle.model.specs.DeleteList.{listedAt}
 use Rattle.model.specs.Partition.{flushesOf, listedOf, listOf, liveOf, bufferOf, passingFrom, passing}
-use Rattle.model.specs.Answers.{Areas, Refusal, Answer, refused, buffer, batch}
+use Rattle.model.specs.Answers.{Areas, Tally, tally, pageRead, Refusal, Answer, refused, buffer, batch}
 use Rattle.model.specs.Batch.{batchPage}
 use Rattle.model.specs.Get.{hitIn, readThrough, sought}
 use Rattle.model.specs.Calls.{get, geometryIn, keyPartition, checks, reply}
@@ -34,32 +34,32 @@ module _ (a : Areas) (k : ℕ) where
   lack-one-more (m ∷ ms) n lacking passed lacks = (lacking .0, lacking .1, lack-one-more ms n (lacking .2) passed lacks)
 
   -- Batch n's page is read behind batches that all lack the key. They are carried along, so that nothing is ever put in front of a later answer's batches.
-  module _ (n : ℕ) (before : List ℕ) (lacking : AllLack a k before) (passed : isPassed a k n ≡ true) (reads : ℕ) (later : Answer) (rest : List ℕ) where
+  module _ (n : ℕ) (before : List ℕ) (lacking : AllLack a k before) (passed : isPassed a k n ≡ true) (c : Tally) (later : Answer) (rest : List ℕ) where
     page-read : (AllLack a k (before ++ n ∷ []) → Follows a k later ((before ++ n ∷ []) ++ rest)) → (b : Bool) (o : Option ℕ) → searched k (page n) ≡ o
-        → Follows a k (cond b (hitIn (page n) reads (batch n) o later) (refused 13 reads)) (before ++ n ∷ cond (b && not (isSome o)) rest [])
+        → Follows a k (cond b (hitIn (page n) c (batch n) o later) (refused 13 (c .reads))) (before ++ n ∷ cond (b && not (isSome o)) rest [])
     page-read goes-on false o e = tt
     page-read goes-on true (some i) e = record { before = before; last = refl; lacking = lacking; passed = passed; holds = rw e }
     page-read goes-on true none e = rw (← append-assoc before (n ∷ []) rest) (goes-on (lack-one-more before n lacking passed (rw e)))
 
-  walked : (count n reads : ℕ) (before : List ℕ) → AllLack a k before
-      → Follows a k (readThrough g k (a .flash) (passingFrom g k p count n) reads) (before ++ readOf g k (a .flash) (passingFrom g k p count n))
+  walked : (count n : ℕ) (c : Tally) (before : List ℕ) → AllLack a k before
+      → Follows a k (readThrough g k (a .flash) (passingFrom g k p count n) c) (before ++ readOf g k (a .flash) (passingFrom g k p count n))
   unfolding readOf passingFrom
-  walked zero n reads before lacking = rw (read-none, append-nil) lacking
-  walked (suc count) n reads before lacking = either (isPassed a k n)
-      (λ passed. simp (passed, read-batch) (page-read n before lacking passed (reads + 1) _ _ (walked count (n - 1) (reads + 1) (before ++ n ∷ []))
+  walked zero n c before lacking = rw (read-none, append-nil) lacking
+  walked (suc count) n c before lacking = either (isPassed a k n)
+      (λ passed. simp (passed, read-batch) (page-read n before lacking passed (pageRead c) _ _ (walked count (n - 1) (pageRead c) (before ++ n ∷ []))
       (expected g (partitionOf g k) n (pageOf g k) (page n)) (searched k (page n)) refl))
-      (λ skipped. simp skipped (walked count (n - 1) reads before lacking))
+      (λ skipped. simp skipped (walked count (n - 1) c before lacking))
 
-  in-buffer : (o : Option ℕ) → Follows a k (hitIn (bufferOf g p (pageOf g k)) 0 buffer o (readThrough g k (a .flash) (passing g k p) 0))
+  in-buffer : (o : Option ℕ) → searched k (bufferOf g p (pageOf g k)) ≡ o → Follows a k (hitIn (bufferOf g p (pageOf g k)) (tally 0) buffer o (readThrough g k (a .flash) (passing g k p) (tally 0)))
       (cond (isSome o) [] (readOf g k (a .flash) (passing g k p)))
   unfolding passing
-  in-buffer (some i) = refl
-  in-buffer none = walked (liveOf p) (flushesOf p) 0 [] tt
+  in-buffer (some i) e = (refl, rw e)
+  in-buffer none e = walked (liveOf p) (flushesOf p) (tally 0) [] tt
 
   in-list : (o : Option ℕ) → listedAt (listedOf p) k (listOf g p) ≡ o → Follows a k (sought g k p (a .flash)) (readBy a k)
   unfolding batchesRead
   in-list (some i) e = rw (sought-listed g k (a .flash) p i e, e) tt
-  in-list none e = rw (sought-unlisted g k (a .flash) p e, e) (in-buffer (searched k (bufferOf g p (pageOf g k))))
+  in-list none e = rw (sought-unlisted g k (a .flash) p e, e) (in-buffer (searched k (bufferOf g p (pageOf g k))) refl)
 
   pub follows : Follows a k (reply a (get k)) (readBy a k)
   follows = go (checks a (get k)) refl

@@ -72,8 +72,8 @@ module _ (a : Areas) (h : History) (inv : InStep a h) where
     counted-at = record { shown = inv .shows .part t below; total = inv .counted t below }
 
     -- a flush number that is left
-    pub next-number : eqb (flushesOf (partition g t (a .memory))) lastFlush ≡ false → flushesOf (partition g t (a .memory)) + 1 < 2 ^ 32
-    next-number e = omega (numbers, inv .shows .part t below .words .flushes)
+    pub next-number : eqb (inv .table t .flushes) lastFlush ≡ false → flushesOf (partition g t (a .memory)) + 1 < 2 ^ 32
+    next-number e = omega (numbers, inv .shows .part t below .flushes, inv .shows .part t below .words .flushes)
 
     -- partition t changed, and flash as it was or with its batch written
     module _ (c : List ℕ → List ℕ) (c′ : Part → Part) where
@@ -92,23 +92,25 @@ module _ (a : Areas) (h : History) (inv : InStep a h) where
           shows-changed a g (inv .table) (inv .shows) t below c c′ (batchWritten a g t) (length-withBatch g t _ (g .pages) (a .flash))
           (λ u j q other lu lj lq. batch-out g (inv .shows .ok) t below _ (a .flash) (inv .shows .flashFits) (g .pages) u j q (omega arith) lu lj lq (λ e f. other e)) (now .shown)
 
-  pub flush-keeps : (t : ℕ) → checks a (flush t) ≡ none → InStep (effect a (flush t)) (aged t h)
-  flush-keeps t e =
+  pub flush-kept : (t : ℕ) → checks a (flush t) ≡ none → InStepBy (effect a (flush t)) (aged t h) (modify t (flushedPart g) (inv .table))
+  flush-kept t e =
       let own = inv .shows .geometry in
       let p : List ℕ = partition g t (a .memory) in
       let passed = flush-accepted g t p (a .flash) (sym (checks-flush a g own (shows-opens a g (inv .table) (inv .shows)) t) ∙ e) in
       let below = passed .0 in
-      let more = next-number t below (due-accepted g t 0 p (a .flash) (passed .4) .0) in
+      let more = next-number t below (rw (inv .shows .part t below .flushes) at (due-accepted g t 0 p (a .flash) (passed .4) .0)) in
       let now = flush-counted g (inv .shows .ok) t p (a .flash) (inv .table t) (counted-at t below) (inv .good .core .parts t) below (inv .shows .flashFits) more in
       rw (effect-flush a g own t) (record {
-        table = modify t (flushedPart g) (inv .table);
         shows = written-shown t below (flushIn g t (a .flash)) (flushedPart g) now;
         counted = changed-counted t below (flushIn g t (a .flash)) (flushedPart g) _ now;
         good = good-flush (inv .table) h (inv .good) t below;
       })
 
-  pub drop-keeps : (t : ℕ) → checks a (drop t) ≡ none → InStep (effect a (drop t)) (lowered t h)
-  drop-keeps t e =
+  pub flush-keeps : (t : ℕ) → checks a (flush t) ≡ none → InStep (effect a (flush t)) (aged t h)
+  flush-keeps t e = by-table (flush-kept t e)
+
+  pub drop-kept : (t : ℕ) → checks a (drop t) ≡ none → InStepBy (effect a (drop t)) (lowered t h) (modify t droppedPart (inv .table))
+  drop-kept t e =
       let own = inv .shows .geometry in
       let p : List ℕ = partition g t (a .memory) in
       let passed = drop-accepted g t p (a .flash) (sym (checks-drop a g own (shows-opens a g (inv .table) (inv .shows)) t) ∙ e) in
@@ -116,8 +118,10 @@ module _ (a : Areas) (h : History) (inv : InStep a h) where
       let any : 1 ≤ inv .table t .live = omega (numbers, passed .2, inv .shows .part t below .live) in
       let now = drop-counted g (inv .shows .ok) t p (a .flash) (inv .table t) (counted-at t below) (inv .good .core .parts t) any in
       rw (effect-drop a g own t) (record {
-        table = modify t droppedPart (inv .table);
         shows = kept-shown t below (dropIn g t (a .flash)) droppedPart now;
         counted = changed-counted t below (dropIn g t (a .flash)) droppedPart _ now;
         good = good-drop (inv .table) h (inv .good) t below any;
       })
+
+  pub drop-keeps : (t : ℕ) → checks a (drop t) ≡ none → InStep (effect a (drop t)) (lowered t h)
+  drop-keeps t e = by-table (drop-kept t e)

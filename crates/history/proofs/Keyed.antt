@@ -10,7 +10,7 @@ use borrow.Author.Tests.{ne-eqb}
 use Rattle.model.specs.declared.Geometry.{Geometry}
 use Rattle.model.specs.Geometry.{partitions}
 use Rattle.model.specs.Keys.{partitionOf}
-use Rattle.model.specs.Partition.{partition, flushesOf}
+use Rattle.model.specs.Partition.{partition}
 use Rattle.model.specs.Answers.{Areas, done}
 use Rattle.model.specs.Refusals.{lastFlush}
 use Rattle.model.specs.Put.{noPosition, due, putIn}
@@ -60,19 +60,21 @@ module _ (a : Areas) (h : History) (inv : InStep a h) (k : ℕ) (hk : k < 2 ^ 64
 
   free-place : checks a (del k) ≡ none → mustList g k s ≡ true → length (s .list) < g .list
   free-place e must =
-      let free = refuse-none (mustList g k s && eqb (length (s .list)) (g .list)) 14 none (sym (del-checks a g (inv .table) (inv .shows) (inv .counted) (inv .good .core .parts) k hk) ∙ e) .0 in
+      let free = refuse-none (mustList g k s && eqb (length (s .list)) (g .list)) 14 none (sym (del-checks inv k hk) ∙ e) .0 in
       let less : eqb (length (s .list)) (g .list) ≡ false = simp must at free in
       omega (numbers, inv .good .core .parts t .listFits)
 
-  pub del-keeps : checks a (del k) ≡ none → InStep (effect a (del k)) (withKey k none h)
-  del-keeps e =
+  pub del-kept : checks a (del k) ≡ none → InStepBy (effect a (del k)) (withKey k none h) (modify t (deletedPart g k) (inv .table))
+  del-kept e =
       let now = del-counted g (inv .shows .ok) t _ _ s was part k hk (free-place e) in
       rw (effect-del a g (inv .shows .geometry) k) (record {
-        table = modify t (deletedPart g k) (inv .table);
         shows = kept-shown a h inv t below (deleted g k) (deletedPart g k) now;
         counted = changed-counted a h inv t below (deleted g k) (deletedPart g k) _ now;
         good = good-del (inv .table) h (inv .good) k below (free-place e);
       })
+
+  pub del-keeps : checks a (del k) ≡ none → InStep (effect a (del k)) (withKey k none h)
+  del-keeps e = by-table (del-kept e)
 
   module _ (v : ℕ) (hv : v < 2 ^ 64) where
     is-due : due g k (partition g t (a .memory)) ≡ dueIn g k s
@@ -81,10 +83,10 @@ module _ (a : Areas) (h : History) (inv : InStep a h) (k : ℕ) (hk : k < 2 ^ 64
     pub put-result : result a (put k v) ≡ done (cond (dueIn g k s) (g .pages) 0)
     put-result = result-put a g (inv .shows .geometry) k v (dueIn g k s) is-due
 
-    number-left : checks a (put k v) ≡ none → dueIn g k s ≡ true → eqb (flushesOf (partition g t (a .memory))) lastFlush ≡ false
+    number-left : checks a (put k v) ≡ none → dueIn g k s ≡ true → eqb (s .flushes) lastFlush ≡ false
     number-left e d =
-        let later = refuse-none (noPosition v) 21 _ (sym (put-checks a g (inv .table) (inv .shows) (inv .counted) (inv .good .core .parts) k hk v) ∙ e) .1 in
-        let free = refuse-none (dueIn g k s && eqb (flushesOf (partition g t (a .memory))) lastFlush) 16 none later .0 in
+        let later = refuse-none (noPosition v) 21 _ (sym (put-checks inv k hk v) ∙ e) .1 in
+        let free = refuse-none (dueIn g k s && eqb (s .flushes) lastFlush) 16 none later .0 in
         simp d at free
 
     pub put-kept : checks a (put k v) ≡ none → (b : Bool) → dueIn g k s ≡ b → InStepBy (effect a (put k v)) (historyPut h k v b) (tablePut g (inv .table) k v b)

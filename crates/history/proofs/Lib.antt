@@ -1,6 +1,7 @@
 pub mod FromFormat
 pub mod Positions
 pub mod Modify
+pub mod Bare
 pub mod Table
 pub mod Told
 pub mod Core
@@ -22,8 +23,8 @@ pub mod Areas
 pub mod Formatting
 pub mod Reading
 pub mod Following
-pub mod Checking
 pub mod InStep
+pub mod Checking
 pub mod Keyed
 pub mod Step
 pub mod Demand

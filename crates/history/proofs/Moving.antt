@@ -18,12 +18,12 @@ use Rattle.model.specs.PartitionText.{partitionText}
 use Rattle.model.specs.Calls.{format, get, text, reply, after, run}
 use Rattle.model.specs.Session.{linesOf, linesLeave}
 use Rattle.model.proofs.Sizes.{page-of-lt}
-use Rattle.model.proofs.Calls.{result-format, result-text, reply-accepted}
+use Rattle.model.proofs.Calls.{result-format, result-text, reply-accepted, after-done}
 use Rattle.model.proofs.Answering.{found-stands}
 use Rattle.history.specs.History.{Known, History, blank, events, remember}
 use Rattle.history.specs.Claim.{isRefused, said, valueOf}
 use Rattle.history.specs.Moving.{AllTaken, Moves, TextMoves}
-use Rattle.history.proofs.FromFormat.{outcome}
+use Rattle.history.proofs.FromFormat.{not-refused}
 use Rattle.history.proofs.Checking.{text-checks}
 use Rattle.history.proofs.InStep.{InStep, by-table, format-kept}
 use Rattle.history.proofs.Positions.{AllPositions, all-positions}
@@ -37,9 +37,9 @@ use Rattle.history.proofs.ReplayText.{InText, ends-text}
 
 -- a fresh table stands at the start
 fresh : (g : Geometry) (t : ℕ) (values : ℕ → Option ℕ) (b : Areas) → isRefused (reply b (format g)) ≡ false → At g t values 0 0 0 (after b (format g)) (blank g)
-fresh g t values b = outcome b (format g) 0 (λ b′ x. isRefused x ≡ false → At g t values 0 0 0 b′ (blank g)) (result-format b g)
-    (λ m r e. absurd (false≢true (sym e)))
-    (λ passed e. record {
+fresh g t values b e =
+    let passed = not-refused b (format g) e in
+    rw (after-done b (format g) passed 0 (result-format b g)) (record {
       inStep = by-table (format-kept b g passed);
       sameGeometry = refl;
       part = record { few = omega arith; here = λ e. omega arith; ahead = λ e r l. refl };
@@ -69,7 +69,7 @@ module _ (a : Areas) (h : History) (inv : InStep a h) (positions : AllPositions 
 
   told : (room : ℕ) → length (partitionText g t p (a .flash)) ≤ room → reply a (text t room) ≡ done (length (partitionText g t p (a .flash)))
   told room l =
-      reply-accepted a (text t room) (text-checks a g (inv .table) (inv .shows) (inv .counted) (inv .good .core .parts) t inside room ∙ rw (le-ltb room (length (partitionText g t p (a .flash))) l))
+      reply-accepted a (text t room) (text-checks inv t inside room ∙ rw (le-ltb room (length (partitionText g t p (a .flash))) l))
       ∙ result-text a g (inv .shows .geometry) t room
 
   -- a key that a get finds has a line

@@ -9,7 +9,6 @@ use Rattle.model.specs.Search.{isSome}
 use Rattle.model.specs.Geometry.{allowed}
 use Rattle.model.specs.Partition.{batchPasses, passingFrom, passing}
 use Rattle.model.specs.Del.{isListed, youngest, stampFor}
-use Rattle.model.proofs.Sizes.{sizes}
 use Rattle.model.proofs.Tables.{find, hasBit, passesIn}
 use Rattle.model.proofs.Passing.{batch-passes}
 use Rattle.history.proofs.Table.{Part, Live, isEmpty, mustList, passingFrom as passingIn, passing as passingOf}
@@ -17,7 +16,7 @@ use Rattle.history.proofs.Shows.{ShowsPart, list-has}
 
 module _ (g : Geometry) (ok : allowed g ≡ true) (t : ℕ) (p f : List ℕ) (s : Part) (shows : ShowsPart g t p f s) (k : ℕ) where
   passes-shown : (n : ℕ) → Live s n → batchPasses g k p n ≡ passesIn g (s .batch n) k
-  passes-shown n live = batch-passes g (omega (arith, sizes g ok .bits-min)) k p n (hasBit g (s .batch n)) (λ b. shows .filter n b live)
+  passes-shown n live = batch-passes g ok k p n (hasBit g (s .batch n)) (λ b. shows .filter n b live)
 
   passing-from : (count n : ℕ) → count ≤ n → n ≤ s .flushes → s .flushes + count ≤ n + s .live → passingFrom g k p count n ≡ passingIn g k s count n
   unfolding passingFrom passingIn

@@ -1,17 +1,17 @@
 -- A put of 0 is refused on any areas. So the history never hears of one: from a format on each key that it knows has a value of 64 bits that is not 0.
 use Prim.Native.Nat.{ℕ, _+_, _^_, _<_}
-use mathlib.Core.Bool.{Bool, true, false, cond, true≢false}
-use mathlib.Core.Path.{_≡_, refl, sym, _∙_, ap}
+use mathlib.Core.Bool.{Bool, true, false, cond}
+use mathlib.Core.Path.{_≡_, ap}
 use mathlib.Core.Option.{Option, none, some}
 use native.Mathlib.Omega.{arith}
 use lib.Dec.{eqb, ltb}
 use Rattle.model.specs.Keys.{partitionOf}
-use Rattle.model.specs.Answers.{Areas, Refusal, Answer, done, found, absent, shown, refused}
-use Rattle.model.specs.Calls.{Call, format, put, get, del, flush, view, count, text, drop, checks, reply}
-use Rattle.model.proofs.Calls.{put-not-0, reply-refused}
+use Rattle.model.specs.Answers.{Areas}
+use Rattle.model.specs.Calls.{Call, format, put, get, del, flush, view, count, text, drop, reply}
+use Rattle.model.proofs.Calls.{put-not-0}
 use Rattle.history.specs.History.{Known, History, older, aged, unlessAged, accepted, heard, note}
-use Rattle.history.specs.Claim.{Fits, isRefused, valueOf, FromFormat}
-use Rattle.history.proofs.FromFormat.{from-format}
+use Rattle.history.specs.Claim.{Fits, valueOf, FromFormat}
+use Rattle.history.proofs.FromFormat.{heard-as, not-refused, from-format}
 
 -- what the history knows of a key is a position: not 0, and of 64 bits
 abbrev pub IsPosition : ℕ → Type 0
@@ -58,23 +58,14 @@ accepted-position h (count t) n fits other p k = p k
 accepted-position h (text t room) n fits other p k = p k
 accepted-position h (drop t) n fits other p k = cond-position (eqb (partitionOf (h .geometry) k) t) _ _ (unaged-position (h .live t) (h .keys k) (p k)) (p k)
 
-heard-position : (h : History) (c : Call) (x : Answer) → Fits c → (isRefused x ≡ false → (k : ℕ) → c ≡ put k 0 → ⊥) → AllPositions h → AllPositions (note h (heard c x))
+position-kept : (a : Areas) (h : History) → AllPositions h → (c : Call) → Fits c → AllPositions (note h (heard c (reply a c)))
 unfolding note
-heard-position h c (done n) fits other p = accepted-position h c n fits (other refl) p
-heard-position h c (found v t q) fits other p = accepted-position h c 0 fits (other refl) p
-heard-position h c (absent t) fits other p = accepted-position h c 0 fits (other refl) p
-heard-position h c (shown s) fits other p = accepted-position h c 0 fits (other refl) p
-heard-position h c (refused n r) fits other p = p
-
-not-refused : (a : Areas) (c : Call) → isRefused (reply a c) ≡ false → (k : ℕ) → c ≡ put k 0 → ⊥
-not-refused a c e k own = go (checks a c) refl
-  where
-    go : (o : Option Refusal) → checks a c ≡ o → ⊥
-    go (some r) x = true≢false (sym (ap isRefused (reply-refused a c r x)) ∙ e)
-    go none x = put-not-0 a k (rw own at x)
+position-kept a h p c fits = heard-as c (λ e. AllPositions (note h e)) (reply a c)
+    (λ taken n. accepted-position h c n fits (λ k own. put-not-0 a k (rw own at (not-refused a c taken))) p)
+    p
 
 pub all-positions : FromFormat (λ a h. AllPositions h)
-all-positions = from-format (λ a h. AllPositions h) (λ a g passed k. tt) (λ a h p c fits. heard-position h c (reply a c) fits (not-refused a c) p)
+all-positions = from-format (λ a h. AllPositions h) (λ a g passed k. tt) position-kept
 
 -- and so no 0 is shown
 pub value-nonzero : (o : Option Known) → Position o → some (valueOf o) ≡ some (some 0) → ⊥

@@ -1,5 +1,5 @@
 -- A get on bytes that show a partition answers as the partition does, and reads the same batches; refusal 13 does not come up.
-use Prim.Native.Nat.{ℕ, _+_, _≤_}
+use Prim.Native.Nat.{ℕ, _≤_}
 use mathlib.Core.Bool.{Bool, true, false, cond, not}
 use mathlib.Core.Path.{_≡_, refl, _∙_, ap}
 use mathlib.Core.List.{List, [], _∷_}
@@ -11,7 +11,7 @@ use Rattle.model.specs.Keys.{partitionOf, pageOf}
 use Rattle.model.specs.Page.{searched, expected}
 use Rattle.model.specs.DeleteList.{listedAt}
 use Rattle.model.specs.Partition.{listedOf, listOf, bufferOf, passing}
-use Rattle.model.specs.Answers.{Answer, buffer, batch}
+use Rattle.model.specs.Answers.{Tally, tally, pageRead, Answer, buffer, batch}
 use Rattle.model.specs.Batch.{batchPage}
 use Rattle.model.specs.Get.{hitIn, readThrough, sought}
 use Rattle.model.proofs.Sizes.{page-of-lt}
@@ -27,9 +27,9 @@ use Rattle.history.proofs.Shows.{ShowsBatchPage, ShowsPart, live-by-hea
 use Rattle.history.proofs.Passing.{passing-shown}
 
 -- a search of a page answers with what it finds
-hit-batch : (page : List ℕ) (n reads : ℕ) (o : Option ℕ) (later : Answer) → hitIn page reads (batch n) o later ≡ answerAt (heldAt 8 page o) n reads later
-hit-batch page n reads none later = refl
-hit-batch page n reads (some i) later = refl
+hit-batch : (page : List ℕ) (n : ℕ) (c : Tally) (o : Option ℕ) (later : Answer) → hitIn page c (batch n) o later ≡ answerAt (heldAt 8 page o) n c later
+hit-batch page n c none later = refl
+hit-batch page n c (some i) later = refl
 
 module _ (g : Geometry) (ok : allowed g ≡ true) (k : ℕ) (p f : List ℕ) (s : Part) (shows : ShowsPart g (partitionOf g k) p f s)
     (within : s .live ≤ s .flushes) where
@@ -41,13 +41,13 @@ module _ (g : Geometry) (ok : allowed g ≡ true) (k : ℕ) (p f : List ℕ) (s 
     is-expected : expected g (partitionOf g k) n (pageOf g k) (batchPage g (partitionOf g k) f n (pageOf g k)) ≡ true
     is-expected = page-expected (shown .page) n (shown .flush)
 
-  read-through : (high : ℕ) (ns : List ℕ) (reads : ℕ) → LiveBatches s high ns → readThrough g k f ns reads ≡ walk (lookIn g k s) ns reads
+  read-through : (high : ℕ) (ns : List ℕ) (c : Tally) → LiveBatches s high ns → readThrough g k f ns c ≡ walk (lookIn g k s) ns c
   unfolding walk
-  read-through high [] reads falls = read-none g k f reads
-  read-through high (n ∷ ns) reads falls =
+  read-through high [] c falls = read-none g k f c
+  read-through high (n ∷ ns) c falls =
       let page : List ℕ = batchPage g (partitionOf g k) f n (pageOf g k) in
-      rw (read-batch g k f n ns reads, is-expected n (falls .0), page-find (shown n (falls .0) .page) k, ← (read-through n ns (reads + 1) (falls .2)))
-      (hit-batch page n (reads + 1) (searched k page) (readThrough g k f ns (reads + 1)))
+      rw (read-batch g k f n ns c, is-expected n (falls .0), page-find (shown n (falls .0) .page) k, ← (read-through n ns (pageRead c) (falls .2)))
+      (hit-batch page n (pageRead c) (searched k page) (readThrough g k f ns (pageRead c)))
 
   read-of : (high : ℕ) (ns : List ℕ) → LiveBatches s high ns → readOf g k f ns ≡ walkRead (lookIn g k s) ns
   unfolding readOf walkRead
@@ -68,8 +68,8 @@ module _ (g : Geometry) (ok : allowed g ≡ true) (k : ℕ) (p f : List ℕ) (s 
   in-buffer = page-find (shows .buffer (pageOf g k) (page-of-lt g ok k)) k
 
   -- by where the list and the buffer page have the key
-  hit-buffer : (o : Option ℕ) → hitIn buffered 0 buffer o (readThrough g k f (passing g k p) 0) ≡ lookedUp g k s none (heldAt 8 buffered o)
-  hit-buffer none = rw (passing-shown g ok (partitionOf g k) p f s shows k within) (read-through _ (passingOf g k s) 0 (passing-live g k s within))
+  hit-buffer : (o : Option ℕ) → hitIn buffered (tally 0) buffer o (readThrough g k f (passing g k p) (tally 0)) ≡ lookedUp g k s none (heldAt 8 buffered o)
+  hit-buffer none = rw (passing-shown g ok (partitionOf g k) p f s shows k within) (read-through _ (passingOf g k s) (tally 0) (passing-live g k s within))
   hit-buffer (some i) = refl
 
   sought-in : (o : Option ℕ) → listedAt (listedOf p) k (listOf g p) ≡ o → sought g k p f ≡ lookedUp g k s (heldAt 4 (listOf g p) o) (heldAt 8 buffered (searched k buffered))

@@ -13,10 +13,9 @@ use borrow.Author.Tests.{ltb-true, ltb-false, not-false}
 use Rattle.model.specs.declared.Geometry.{Geometry}
 use Rattle.model.specs.Geometry.{allowed, partitions, memoryNeed, flashNeed}
 use Rattle.model.specs.Keys.{partitionOf}
-use Rattle.model.specs.Partition.{partition, headOf, flushesOf, liveOf, isLive}
+use Rattle.model.specs.Partition.{partition, headOf, isLive}
 use Rattle.model.specs.Answers.{Areas, Refusal, unread, Answer, done, found, absent, shown, refused}
 use Rattle.model.specs.Refusals.{refuseIf, lastFlush}
-use Rattle.model.specs.Flush.{inUse}
 use Rattle.model.specs.Put.{noPosition}
 use Rattle.model.specs.Format.{formatChecks}
 use Rattle.model.specs.View.{viewed}
@@ -28,7 +27,7 @@ use Rattle.model.proofs.Checks.{refuse-none, format-1, format-2, format-3, form
 use Rattle.model.proofs.Calls.{checks-format, result-format, result-put, result-del, result-flush, result-view, result-count, result-text, result-drop, reply-refused, reply-accepted, viewed-page}
 use Rattle.history.specs.History.{History}
 use Rattle.history.specs.Claim.{Fits, said}
-use Rattle.history.proofs.Table.{Part, due, mustList}
+use Rattle.history.proofs.Table.{Part, inUse, due, mustList}
 use Rattle.history.proofs.Pages.{page-expected}
 use Rattle.history.proofs.Shows.{live-by-table}
 use Rattle.history.proofs.Checking.{put-checks, del-checks, flush-out, flush-checks, view-out, view-checks, count-out, count-checks, text-out, text-checks, drop-out, drop-checks}
@@ -112,44 +111,44 @@ module _ (a : Areas) (h : History) (inv : InStep a h) where
   refusals-possible (format g′) fits = among a (format g′) _ _ (checks-format a g′) (format-gives a g′) (λ e. rw (result-format a g′) tt)
   refusals-possible (put k v) fits =
       let ns : List ℕ = 21 ∷ 16 ∷ [] in
-      let last = due g k (of k) && eqb (flushesOf (p (partitionOf g k))) lastFlush in
-      among a (put k v) ns _ (put-checks a g (inv .table) (inv .shows) (inv .counted) (inv .good .core .parts) k (fits .0) v)
+      let last = due g k (of k) && eqb (of k .flushes) lastFlush in
+      among a (put k v) ns _ (put-checks inv k (fits .0) v)
       (give-if ns (noPosition v) 21 (refuseIf last 16 none) refl (give-if ns last 16 none refl tt)) (λ e. rw (result-put a _ refl k v _ refl) tt)
   refusals-possible (get k) fits = accepted (reply a (get k)) _ (says a h inv k fits)
-  refusals-possible (del k) fits = among a (del k) _ _ (del-checks a g (inv .table) (inv .shows) (inv .counted) (inv .good .core .parts) k fits)
+  refusals-possible (del k) fits = among a (del k) _ _ (del-checks inv k fits)
       (give-if (14 ∷ []) (mustList g k (of k) && eqb (length (of k .list)) (g .list)) 14 none refl tt) (λ e. rw (result-del a k) tt)
   refusals-possible (flush t) fits = either (ltb t (partitions g))
       (λ l.
       let ns : List ℕ = 4 ∷ 15 ∷ 16 ∷ [] in
-      let last = eqb (flushesOf (p t)) lastFlush in
-      among a (flush t) ns _ (flush-checks a g (inv .table) (inv .shows) (inv .counted) (inv .good .core .parts) t (ltb-true t (partitions g) l))
-      (give-if ns (not (inUse g (p t))) 15 (refuseIf last 16 none) refl (give-if ns last 16 none refl tt)) (λ e. rw (result-flush a _ refl t) tt))
-      (λ l. rw (reply-refused a (flush t) (unread 4) (flush-out a g (inv .table) (inv .shows) (inv .counted) (inv .good .core .parts) t (ltb-false t (partitions g) l))) (refl, refl))
+      let last = eqb (inv .table t .flushes) lastFlush in
+      among a (flush t) ns _ (flush-checks inv t (ltb-true t (partitions g) l))
+      (give-if ns (not (inUse g (inv .table t))) 15 (refuseIf last 16 none) refl (give-if ns last 16 none refl tt)) (λ e. rw (result-flush a _ refl t) tt))
+      (λ l. rw (reply-refused a (flush t) (unread 4) (flush-out inv t (ltb-false t (partitions g) l))) (refl, refl))
   refusals-possible (view t q n) fits = either (ltb t (partitions g) && ltb q (g .pages))
       (λ e.
       let both = both-true (ltb t (partitions g)) (ltb q (g .pages)) e in
       let below = ltb-true t (partitions g) (both .0) in
       let page = ltb-true q (g .pages) (both .1) in
       let dead = not (eqb n 0) && not (isLive (headOf (p t)) n) in
-      among a (view t q n) _ _ (view-checks a g (inv .table) (inv .shows) (inv .counted) (inv .good .core .parts) t below q n page)
+      among a (view t q n) _ _ (view-checks inv t below q n page)
       (give-if (4 ∷ 17 ∷ []) dead 17 none refl tt)
       (λ x. rw (result-view a g (inv .shows .geometry) t q n) (page-shown t q n below page (refuse-none dead 17 none x .0))))
       (λ e. rw (reply-refused a (view t q n) (unread 4)
-      (view-out a g (inv .table) (inv .shows) (inv .counted) (inv .good .core .parts) t q n (outside (ltb t (partitions g)) (ltb q (g .pages)) e))) (refl, refl))
+      (view-out inv t q n (outside (ltb t (partitions g)) (ltb q (g .pages)) e))) (refl, refl))
     where
       outside : (x y : Bool) → x && y ≡ false → not x || not y ≡ true
       outside true true e = absurd (false≢true (sym e))
       outside true false e = refl
       outside false y e = refl
   refusals-possible (count t) fits = either (ltb t (partitions g))
-      (λ l. among a (count t) _ _ (count-checks a g (inv .table) (inv .shows) (inv .counted) (inv .good .core .parts) t (ltb-true t (partitions g) l)) tt
+      (λ l. among a (count t) _ _ (count-checks inv t (ltb-true t (partitions g) l)) tt
       (λ e. rw (result-count a _ refl t) tt))
-      (λ l. rw (reply-refused a (count t) (unread 4) (count-out a g (inv .table) (inv .shows) (inv .counted) (inv .good .core .parts) t (ltb-false t (partitions g) l))) (refl, refl))
+      (λ l. rw (reply-refused a (count t) (unread 4) (count-out inv t (ltb-false t (partitions g) l))) (refl, refl))
   refusals-possible (text t room) fits = either (ltb t (partitions g))
-      (λ l. among a (text t room) _ _ (text-checks a g (inv .table) (inv .shows) (inv .counted) (inv .good .core .parts) t (ltb-true t (partitions g) l) room)
+      (λ l. among a (text t room) _ _ (text-checks inv t (ltb-true t (partitions g) l) room)
       (give-if (4 ∷ 22 ∷ []) (ltb room (length (partitionText g t (p t) (a .flash)))) 22 none refl tt) (λ e. rw (result-text a _ refl t room) tt))
-      (λ l. rw (reply-refused a (text t room) (unread 4) (text-out a g (inv .table) (inv .shows) (inv .counted) (inv .good .core .parts) t room (ltb-false t (partitions g) l))) (refl, refl))
+      (λ l. rw (reply-refused a (text t room) (unread 4) (text-out inv t room (ltb-false t (partitions g) l))) (refl, refl))
   refusals-possible (drop t) fits = either (ltb t (partitions g))
-      (λ l. among a (drop t) _ _ (drop-checks a g (inv .table) (inv .shows) (inv .counted) (inv .good .core .parts) t (ltb-true t (partitions g) l))
-      (give-if (4 ∷ 23 ∷ []) (eqb (liveOf (p t)) 0) 23 none refl tt) (λ e. rw (result-drop a t) tt))
-      (λ l. rw (reply-refused a (drop t) (unread 4) (drop-out a g (inv .table) (inv .shows) (inv .counted) (inv .good .core .parts) t (ltb-false t (partitions g) l))) (refl, refl))
+      (λ l. among a (drop t) _ _ (drop-checks inv t (ltb-true t (partitions g) l))
+      (give-if (4 ∷ 23 ∷ []) (eqb (inv .table t .live) 0) 23 none refl tt) (λ e. rw (result-drop a t) tt))
+      (λ l. rw (reply-refused a (drop t) (unread 4) (drop-out inv t (ltb-false t (partitions g) l))) (refl, refl))

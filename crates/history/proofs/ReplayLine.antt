@@ -10,12 +10,11 @@ use borrow.Author.Tests.{eq-eqb, ne-eqb}
 use Rattle.model.specs.declared.Geometry.{Geometry}
 use Rattle.model.specs.Geometry.{capacity}
 use Rattle.model.specs.Keys.{partitionOf, pageOf}
-use Rattle.model.specs.Partition.{partition, flushesOf}
 use Rattle.model.specs.Answers.{Areas}
 use Rattle.model.specs.Refusals.{lastFlush}
 use Rattle.model.specs.PartitionText.{putText}
 use Rattle.model.specs.Calls.{put, checks, reply, after}
-use Rattle.model.proofs.Sizes.{sizes, partition-of-lt}
+use Rattle.model.proofs.Sizes.{sizes}
 use Rattle.model.proofs.Partitions.{modify-at}
 use Rattle.model.proofs.Checks.{a-position}
 use Rattle.model.proofs.Calls.{reply-accepted, after-done}
@@ -43,16 +42,15 @@ module _ (t : ℕ) (values : ℕ → Option ℕ) (i q n : ℕ) (b : Areas) (h : 
   abbrev s : Part
   s = inv .table t
 
-  early : flushesOf (partition g (partitionOf g k) (b .memory)) ≡ lastFlush → ⊥
+  early : inv .table (partitionOf g k) .flushes ≡ lastFlush → ⊥
   early e =
-      let shown : flushesOf (partition g t (b .memory)) ≡ s .flushes = inv .shows .part t (rw (← own) (partition-of-lt g (inv .shows .ok) k hk)) .flushes in
-      let same : flushesOf (partition g t (b .memory)) ≡ lastFlush = rw own at e in
+      let same : s .flushes ≡ lastFlush = rw own at e in
       omega (arith, at .part .few, sizes g (inv .shows .ok) .kept-max)
 
   passed : checks b (put k v) ≡ none
   passed =
-      put-checks b g (inv .table) (inv .shows) (inv .counted) (inv .good .core .parts) k hk v
-      ∙ rw (a-position v (position .0), ne-eqb (flushesOf (partition g (partitionOf g k) (b .memory))) lastFlush early, and-false (due g k (inv .table (partitionOf g k))))
+      put-checks inv k hk v
+      ∙ rw (a-position v (position .0), ne-eqb (inv .table (partitionOf g k) .flushes) lastFlush early, and-false (due g k (inv .table (partitionOf g k))))
 
   accepted : isRefused (reply b (put k v)) ≡ false
   accepted = rw (reply-accepted b (put k v) passed, put-result b h inv k hk v (position .1))

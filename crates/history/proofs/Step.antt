@@ -1,33 +1,27 @@
 -- Every call keeps areas and history in step.
 use Prim.Native.Nat.{ℕ}
-use mathlib.Core.Path.{_≡_, refl, ap}
+use mathlib.Core.Path.{_≡_, refl}
 use mathlib.Core.Option.{none}
-use Rattle.model.specs.Answers.{Areas, Answer, done, found, absent, shown, refused}
+use Rattle.model.specs.Answers.{Areas, done}
 use Rattle.model.specs.Calls.{Call, format, put, get, del, flush, view, count, text, drop, checks, result, reply, effect, after}
-use Rattle.model.proofs.Calls.{result-del, result-format, result-flush, result-drop, effect-get, effect-view, effect-count, effect-text, after-same}
-use Rattle.history.specs.History.{History, looking, accepted, heard, note}
+use Rattle.model.proofs.Calls.{result-del, result-format, result-flush, result-drop, effect-get, effect-view, effect-count, effect-text}
+use Rattle.history.specs.History.{History, Event, looking, accepted, heard, note}
 use Rattle.history.specs.Claim.{Fits}
-use Rattle.history.proofs.FromFormat.{outcome}
+use Rattle.history.proofs.FromFormat.{call-leaves, look-leaves}
 use Rattle.history.proofs.InStep.{InStep, format-keeps, flush-keeps, drop-keeps}
 use Rattle.history.proofs.Keyed.{del-keeps, put-result, put-keeps}
 
 module _ (a : Areas) (h : History) (inv : InStep a h) where
-  -- a refused call changes nothing
-  unless-refused : (c : Call) (n : ℕ) → result a c ≡ done n → (checks a c ≡ none → InStep (effect a c) (note h (accepted c n))) → InStep (after a c) (note h (heard c (reply a c)))
-  unfolding note
-  unless-refused c n ends kept = outcome a c n (λ a′ x. InStep a′ (note h (heard c x))) ends (λ m r. inv) kept
+  abbrev Next : Areas → Event → Type 0
+  Next a′ e = InStep a′ (note h e)
 
-  -- get, view, count and text change nothing, whatever they answer
-  looks-heard : (c : Call) → ((n : ℕ) → accepted c n ≡ looking) → (x : Answer) → note h (heard c x) ≡ h
+  unless-refused : (c : Call) (n : ℕ) → result a c ≡ done n → (checks a c ≡ none → Next (effect a c) (accepted c n)) → Next (after a c) (heard c (reply a c))
   unfolding note
-  looks-heard c looks (done n) = ap (note h) (looks n)
-  looks-heard c looks (found v r p) = ap (note h) (looks 0)
-  looks-heard c looks (absent r) = ap (note h) (looks 0)
-  looks-heard c looks (shown s) = ap (note h) (looks 0)
-  looks-heard c looks (refused n r) = refl
+  unless-refused c n ends kept = call-leaves a c Next n ends inv kept
 
-  looks : (c : Call) → ((n : ℕ) → accepted c n ≡ looking) → effect a c ≡ a → InStep (after a c) (note h (heard c (reply a c)))
-  looks c only same = rw (after-same a c same, looks-heard c only (reply a c)) inv
+  looks : (c : Call) → ((n : ℕ) → accepted c n ≡ looking) → effect a c ≡ a → Next (after a c) (heard c (reply a c))
+  unfolding note
+  looks c only same = look-leaves a c Next only same inv inv
 
   pub step : (c : Call) → Fits c → InStep (after a c) (note h (heard c (reply a c)))
   unfolding note

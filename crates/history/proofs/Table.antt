@@ -5,7 +5,7 @@ use mathlib.Core.List.{List, [], _∷_, _++_}
 use lib.Dec.{eqb}
 use lib.ListN.{length}
 use Rattle.model.specs.declared.Geometry.{Geometry}
-use Rattle.model.specs.Search.{isSome}
+use Rattle.model.specs.Search.{isSome, anyFrom}
 use Rattle.model.specs.Geometry.{capacity}
 use Rattle.model.specs.Keys.{pageOf}
 use Rattle.model.proofs.Tables.{Entry, find, store, erase, strike, passesIn}
@@ -50,6 +50,10 @@ passing g k p = passingFrom g k p (p .live) (p .flushes)
 abbrev pub isEmpty : {A : Type 0} → List A → Bool
 isEmpty [] = true
 isEmpty (x ∷ l) = false
+
+-- some buffer page has an entry
+unfoldable pub inUse : Geometry → Part → Bool
+inUse g p = anyFrom (g .pages) 0 (λ q. not (isEmpty (p .buffer q)))
 
 -- a put of a key that is not in its buffer page, and that page is full
 unfoldable pub due : Geometry → ℕ → Part → Bool

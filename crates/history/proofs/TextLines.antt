@@ -64,7 +64,7 @@ module _ (a : Areas) (h : History) (inv : InStep a h) (t : ℕ) (inside : t < pa
   -- a get of a key of the partition says what the history says
   pub sought-says : (k : ℕ) → k < 2 ^ 64 → partitionOf g k ≡ t → said (sought g k p (a .flash)) ≡ some (valueOf (h .keys k))
   sought-says k hk own =
-      rw (← own) (ap said (sym (reply-accepted a (get k) (get-checks a g (inv .table) (inv .shows) (inv .counted) (inv .good .core .parts) k hk)
+      rw (← own) (ap said (sym (reply-accepted a (get k) (get-checks inv k hk)
       ∙ result-get a g (inv .shows .geometry) k)) ∙ says a h inv k hk)
 
   pub line : AllPositions h → (at : Place) (q i : ℕ) → answersWith g t p (a .flash) at q i ≡ true

@@ -1,13 +1,14 @@
 -- Bytes that show a partition: what they say of its entries, and that a change of the head's total shows the same partition.
 use Prim.Native.Nat.{ℕ, suc, _+_, _-_, _^_, _≤_, _<_}
-use mathlib.Core.Bool.{Bool, true, false}
-use mathlib.Core.Path.{_≡_, sym, _∙_, ap, ap₂}
-use mathlib.Core.List.{List}
+use mathlib.Core.Bool.{Bool, true, false, not}
+use mathlib.Core.Path.{_≡_, refl, sym, _∙_, ap, ap₂}
+use mathlib.Core.List.{List, [], _∷_}
 use mathlib.Core.Option.{none}
 use native.Mathlib.Omega.{arith}
 use native.Mathlib.Nat.{zero-add}
-use lib.Dec.{leb}
+use lib.Dec.{eqb, leb}
 use lib.ListN.{length}
+use borrow.Author.Tests.{ne-eqb}
 use Rattle.model.specs.declared.Geometry.{Geometry}
 use Rattle.model.specs.Search.{isSome, firstFrom}
 use Rattle.model.specs.Geometry.{allowed}
@@ -16,16 +17,18 @@ use Rattle.model.specs.Page.{added, taken}
 use Rattle.model.specs.Partition.{Head, headOf, totalled, flushesOf, totalOf, liveOf, oldest}
 use Rattle.model.specs.Batch.{sum, batchEntries, failedPage, pushesOut, failedHead, leaving}
 use Rattle.model.specs.PartitionText.{liveBatch, someBatchFails}
+use Rattle.model.specs.Flush.{inUse}
 use Rattle.model.specs.Put.{due, appends}
 use Rattle.model.specs.Del.{removes}
 use Rattle.model.proofs.Sizes.{sizes, page-of-lt}
 use Rattle.model.proofs.Tests.{numbers, either}
 use Rattle.model.proofs.Sums.{sum-same}
-use Rattle.model.proofs.Searching.{first-behind, first-end}
+use Rattle.model.proofs.Searching.{first-behind, first-end, first-ext}
+use Rattle.model.proofs.Tables.{Entry}
 use Rattle.model.proofs.Heads.{words-totalled}
 use Rattle.model.proofs.PartitionsCalls.{laid-totalled}
 use Rattle.history.specs.Claim.{entriesHeld}
-use Rattle.history.proofs.Table.{Part, Live, due as dueIn}
+use Rattle.history.proofs.Table.{Part, Live, isEmpty, inUse as inUseIn, due as dueIn}
 use Rattle.history.proofs.Core.{pagesAt, PartOk}
 use Rattle.history.proofs.Totals.{entriesAt, entriesAll, oldestIn, leavingIn, addedIn, removedIn, all-parts, batch-of-age}
 use Rattle.history.proofs.Pages.{page-has, page-count, page-expected}
@@ -49,6 +52,14 @@ module _ (g : Geometry) (ok : allowed g ≡ true) (t : ℕ) (p f : List ℕ) (s 
     pub removes-shown : removes g k p ≡ removedIn g k s
     unfolding removes taken removedIn
     removes-shown = rw (list-has shows k, page-has (shows .buffer (pageOf g k) (page-of-lt g ok k)) k)
+
+  pub use-shown : inUse g p ≡ inUseIn g s
+  unfolding inUseIn
+  use-shown = ap isSome (first-ext _ _ (g .pages) 0 (λ q low l. rw (page-count (shows .buffer q (omega arith))) (some-entry (s .buffer q))))
+    where
+      some-entry : (l : List Entry) → not (eqb (length l) 0) ≡ not (isEmpty l)
+      some-entry [] = refl
+      some-entry (e ∷ l) = ap not (ne-eqb (suc (length l)) 0 (omega arith))
 
   module _ (part : PartOk g s) where
     -- a live batch's pages count its entries

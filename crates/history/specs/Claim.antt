@@ -59,7 +59,7 @@ valueOf (some w) = some (w .value)
 
 -- A get of any key is accepted. It gives the history's value for that key, and none exactly when the history has no such key.
 -- Document 02: "From a format on ... lookups then never show 0."
--- Its reads are at most the live number of the key's partition, and at most one page of each live batch; its answer follows from the batches read.
+-- Its reads are at most the live number of the key's partition, and at most one page of each live batch; its answer follows from the batches read, and a value from the buffer is what the key's buffer page holds.
 pub record Right (a : Areas) (h : History) (k : ℕ) : Type 0 where
   pub says : said (reply a (get k)) ≡ some (valueOf (h .keys k))
   pub nonzero : said (reply a (get k)) ≡ some (some 0) → ⊥

@@ -1,4 +1,4 @@
--- Which batches a get reads, in order, and how its answer follows from them.
+-- Which batches a get reads, in order, and how its answer follows from them, or from the buffer.
 use Prim.Native.Nat.{ℕ, _<_}
 use mathlib.Core.Bool.{Bool, true, cond, not, _&&_}
 use mathlib.Core.Path.{_≡_}
@@ -41,11 +41,17 @@ LiveFalling p high (n ∷ ns) = (n < high) × (isLive (headOf p) n ≡ true) × 
 abbrev pub isPassed : Areas → ℕ → ℕ → Bool
 isPassed a k n = batchPasses (geometryIn a) k (keyPartition a k) n
 
--- what the key's page of batch n holds of the key
+-- what a page holds of the key
+abbrev pub heldOn : List ℕ → ℕ → Option ℕ
+heldOn page k = Option·map (valueAt page) (searched k page)
+
+-- the key's page of batch n
 abbrev pub heldIn : Areas → ℕ → ℕ → Option ℕ
-heldIn a k n =
-    let page : List ℕ = batchPage (geometryIn a) (partitionOf (geometryIn a) k) (a .flash) n (pageOf (geometryIn a) k) in
-    Option·map (valueAt page) (searched k page)
+heldIn a k n = heldOn (batchPage (geometryIn a) (partitionOf (geometryIn a) k) (a .flash) n (pageOf (geometryIn a) k)) k
+
+-- and its buffer page
+abbrev pub heldInBuffer : Areas → ℕ → Option ℕ
+heldInBuffer a k = heldOn (bufferOf (geometryIn a) (keyPartition a k) (pageOf (geometryIn a) k)) k
 
 -- of each of these batches the filter passes the key, and the page lacks it
 abbrev pub AllLack : Areas → ℕ → List ℕ → Type 0
@@ -60,10 +66,10 @@ pub record FoundIn (a : Areas) (k v n : ℕ) (read : List ℕ) : Type 0 where
   pub passed : isPassed a k n ≡ true
   pub holds : heldIn a k n ≡ some v
 
--- how a get's answer follows from the batches that it read
+-- how a get's answer follows from the batches that it read, and from the buffer page
 abbrev pub Follows : Areas → ℕ → Answer → List ℕ → Type 0
 Follows a k (found v c (batch n)) read = FoundIn a k v n read
-Follows a k (found v c buffer) read = read ≡ []
+Follows a k (found v c buffer) read = (read ≡ []) × (heldInBuffer a k ≡ some v)
 Follows a k (absent c) read = AllLack a k read
 Follows a k (done n) read = Unit {0}
 Follows a k (shown s) read = Unit {0}

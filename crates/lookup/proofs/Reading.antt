@@ -36,11 +36,11 @@ module _ (g : Geometry) (ok : allowed g ≡ true) (at : ℕ) where
 
 module _ (g : Geometry) (k : ℕ) (p f : List ℕ) where
   abbrev pub whole : Answer
-  whole = readThrough g k f (passing g k p) 0
+  whole = readThrough g k f (passing g k p) (tally 0)
 
   -- of so many batches, from batch n down, after so many reads
   abbrev pub AtBatch : ℕ → ℕ → ℕ → Type 0
-  AtBatch count n reads = whole ≡ readThrough g k f (passingFrom g k p count n) reads
+  AtBatch count n reads = whole ≡ readThrough g k f (passingFrom g k p count n) (tally reads)
 
   pub at-start : (count n : ℕ) → count ≡ liveOf p → n ≡ flushesOf p → AtBatch count n 0
   at-start count n ec en = rw (passing-from g k p, ec, en)
@@ -51,7 +51,7 @@ module _ (g : Geometry) (k : ℕ) (p f : List ℕ) where
 
   -- ---- of the entries from i on of the page at `at`, of batch n, then of the batches that are left
   unfoldable pub entriesFrom : ℕ → ℕ → ℕ → ℕ → ℕ → ℕ → ℕ → Answer
-  entriesFrom count next reads n at end i = hitIn (mid at (g .page) f) reads (batch n) (firstFrom (end - i) i (λ r. eqb (keyAt (mid at (g .page) f) r) k)) (readThrough g k f (passingFrom g k p count next) reads)
+  entriesFrom count next reads n at end i = hitIn (mid at (g .page) f) (tally reads) (batch n) (firstFrom (end - i) i (λ r. eqb (keyAt (mid at (g .page) f) r) k)) (readThrough g k f (passingFrom g k p count next) (tally reads))
 
   module _ (count next reads n at end : ℕ) where
     abbrev pub AtEntry : ℕ → Type 0

@@ -7,6 +7,7 @@ ghost use lib.ListN.{length};
 ghost use Rattle.model.specs.Geometry.{flashNeed};
 ghost use Rattle.model.specs.Partition.{headOf, passing};
 ghost use Rattle.model.specs.Refusals.{headOverfull, keyOverfull};
+ghost use Rattle.model.specs.Answers.{tally};
 ghost use Rattle.model.specs.Get.{readThrough, soughtIn, sought};
 ghost use Rattle.answers.specs.Told.{answered};
 ghost use Rattle.partition.specs.Ready.{Whole};
@@ -24,7 +25,7 @@ pub fn read_through(part: &[u8], flash: &[u8], g: Geometry, key: u64) -> Answer
     requires { ⌜ Whole g (now part) ⌝ }
     requires { ⌜ headOverfull g (headOf (now part)) ≡ false ⌝ }
     requires { ⌜ flashNeed g ≤ length (now flash) ⌝ }
-    ensures { λ r. ⌜ answered r ≡ readThrough g key (now (flash .entry)) (passing g key (now (part .entry))) 0 ⌝ }
+    ensures { λ r. ⌜ answered r ≡ readThrough g key (now (flash .entry)) (passing g key (now (part .entry))) (tally 0) ⌝ }
 {
     let x = keys::mix(key);
     let t = keys::partition_of(g, key);

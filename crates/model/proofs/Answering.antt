@@ -15,7 +15,7 @@ use Rattle.model.specs.Page.{countOf, valueAt, searched, expected}
 use Rattle.model.specs.DeleteList.{listedAt}
 use Rattle.model.specs.Partition.{Head, headOf, listedOf, listOf, flushesOf, liveOf, bufferOf, batchPasses, passingFrom, passing}
 use Rattle.model.specs.Batch.{batchPage}
-use Rattle.model.specs.Answers.{Place, buffer, batch, Tally, tally, Answer, done, found, absent, shown, refused}
+use Rattle.model.specs.Answers.{Place, buffer, batch, Tally, tally, pageRead, Answer, done, found, absent, shown, refused}
 use Rattle.model.specs.Get.{hitIn, readThrough, sought}
 use Rattle.model.specs.PartitionText.{liveBatch, source, sourcePage, isPlace, isFoundIn, answersIn, isAt, answersWith}
 use Rattle.model.proofs.Tests.{either, both-true}
@@ -24,10 +24,10 @@ use Rattle.model.proofs.Passing.{pass-take, pass-skip, pass-end, passin
 use Rattle.model.proofs.Lookup.{read-none, read-batch, sought-listed, sought-unlisted}
 
 -- ---- what a search of a page leaves a get to answer
-hit-or-later : (page : List ℕ) (reads : ℕ) (place : Place) (o : Option ℕ) (later : Answer) (v : ℕ) (c : Tally) (at : Place) → hitIn page reads place o later ≡ found v c at
+hit-or-later : (page : List ℕ) (cost : Tally) (place : Place) (o : Option ℕ) (later : Answer) (v : ℕ) (c : Tally) (at : Place) → hitIn page cost place o later ≡ found v c at
     → ((i : ℕ) × (o ≡ some i) × (valueAt page i ≡ v) × (place ≡ at)) ⊎ (later ≡ found v c at)
-hit-or-later page reads place none later v c at e = inr e
-hit-or-later page reads place (some i) later v c at e = inl (i, refl, cc, cc)
+hit-or-later page cost place none later v c at e = inr e
+hit-or-later page cost place (some i) later v c at e = inl (i, refl, cc, cc)
 
 -- ---- the places that a text goes through
 module _ (h : Head) (i : ℕ) where
@@ -56,23 +56,23 @@ module _ (g : Geometry) (k : ℕ) (p f : List ℕ) (v : ℕ) (c : Tally) (at : P
       record { number = number; below = l; here = here ∙ same; entry = entry; first = rw (← same) first; value = rw (← same) value }
 
   -- through a live batch, or behind it
-  one : (i n reads : ℕ) (ns : List ℕ) → i < liveOf p → n ≡ liveBatch (headOf p) i → readThrough g k f (n ∷ ns) reads ≡ found v c at → Hit g k p f v at ⊎ (readThrough g k f ns (reads + 1) ≡ found v c at)
-  one i n reads ns l e r =
+  one : (i n : ℕ) (cost : Tally) (ns : List ℕ) → i < liveOf p → n ≡ liveBatch (headOf p) i → readThrough g k f (n ∷ ns) cost ≡ found v c at → Hit g k p f v at ⊎ (readThrough g k f ns (pageRead cost) ≡ found v c at)
+  one i n cost ns l e r =
       let page : List ℕ = batchPage g (partitionOf g k) f n (pageOf g k) in
-      let read : cond (expected g (partitionOf g k) n (pageOf g k) page) (hitIn page (reads + 1) (batch n) (searched k page) (readThrough g k f ns (reads + 1))) (refused 13 (reads + 1)) ≡ found v c at = sym (read-batch g k f n ns reads) ∙ r in
+      let read : cond (expected g (partitionOf g k) n (pageOf g k) page) (hitIn page (pageRead cost) (batch n) (searched k page) (readThrough g k f ns (pageRead cost))) (refused 13 (cost .reads + 1)) ≡ found v c at = sym (read-batch g k f n ns cost) ∙ r in
       either (expected g (partitionOf g k) n (pageOf g k) page)
       (λ good. ⊎-elim (λ w. inl (hit i (w .0) (batch n) (omega arith) (source-batch (headOf p) i l ∙ ap batch (sym e)) (w .1) (w .2) (w .3))) (λ later. inr later)
-      (hit-or-later page (reads + 1) (batch n) (searched k page) (readThrough g k f ns (reads + 1)) v c at (rw good at read)))
-      (λ bad. let a : refused 13 (reads + 1) ≡ found v c at = rw bad at read in let z : _≡_ {A = ℕ} 0 1 = cc in absurd (omega arith))
+      (hit-or-later page (pageRead cost) (batch n) (searched k page) (readThrough g k f ns (pageRead cost)) v c at (rw good at read)))
+      (λ bad. let a : refused 13 (cost .reads + 1) ≡ found v c at = rw bad at read in let z : _≡_ {A = ℕ} 0 1 = cc in absurd (omega arith))
 
-  through : (count n reads : ℕ) → count ≤ liveOf p → n ≡ flushesOf p - liveOf p + count → readThrough g k f (passingFrom g k p count n) reads ≡ found v c at → Hit g k p f v at
-  through zero n reads l e r = let a : absent (tally reads) ≡ found v c at = sym (ap (λ ns. readThrough g k f ns reads) (pass-end g k p 0 n (omega arith)) ∙ read-none g k f reads) ∙ r in let z : _≡_ {A = ℕ} 0 1 = cc in absurd (omega arith)
-  through (suc count) n reads l e r =
+  through : (count n : ℕ) (cost : Tally) → count ≤ liveOf p → n ≡ flushesOf p - liveOf p + count → readThrough g k f (passingFrom g k p count n) cost ≡ found v c at → Hit g k p f v at
+  through zero n cost l e r = let a : absent cost ≡ found v c at = sym (ap (λ ns. readThrough g k f ns cost) (pass-end g k p 0 n (omega arith)) ∙ read-none g k f cost) ∙ r in let z : _≡_ {A = ℕ} 0 1 = cc in absurd (omega arith)
+  through (suc count) n cost l e r =
       let less : suc count - 1 ≡ count = omega arith in
       either (batchPasses g k p n)
-      (λ passes. ⊎-elim (λ h. h) (λ later. through count (n - 1) (reads + 1) (omega arith) (omega arith) later)
-      (one count n reads (passingFrom g k p count (n - 1)) (omega arith) (omega arith) (rw (pass-take g k p (suc count) n (omega arith) passes, less) at r)))
-      (λ skips. through count (n - 1) reads (omega arith) (omega arith) (rw (pass-skip g k p (suc count) n (omega arith) skips, less) at r))
+      (λ passes. ⊎-elim (λ h. h) (λ later. through count (n - 1) (pageRead cost) (omega arith) (omega arith) later)
+      (one count n cost (passingFrom g k p count (n - 1)) (omega arith) (omega arith) (rw (pass-take g k p (suc count) n (omega arith) passes, less) at r)))
+      (λ skips. through count (n - 1) cost (omega arith) (omega arith) (rw (pass-skip g k p (suc count) n (omega arith) skips, less) at r))
 
   found-hit : liveOf p ≤ flushesOf p → sought g k p f ≡ found v c at → Hit g k p f v at
   found-hit flushed r = go (listedAt (listedOf p) k (listOf g p)) refl
@@ -82,8 +82,8 @@ module _ (g : Geometry) (k : ℕ) (p f : List ℕ) (v : ℕ) (c : Tally) (at : P
       go none e =
           let page : List ℕ = bufferOf g p (pageOf g k) in
           ⊎-elim (λ w. hit (liveOf p) (w .0) buffer (omega arith) (source-buffer (headOf p) (liveOf p) (omega arith)) (w .1) (w .2) (w .3))
-          (λ later. through (liveOf p) (flushesOf p) 0 (omega arith) (omega (arith, flushed)) (rw (passing-from g k p) at later))
-          (hit-or-later page 0 buffer (searched k page) (readThrough g k f (passing g k p) 0) v c at (sym (sought-unlisted g k f p e) ∙ r))
+          (λ later. through (liveOf p) (flushesOf p) (tally 0) (omega arith) (omega (arith, flushed)) (rw (passing-from g k p) at later))
+          (hit-or-later page (tally 0) buffer (searched k page) (readThrough g k f (passing g k p) (tally 0)) v c at (sym (sought-unlisted g k f p e) ∙ r))
 
 -- ---- an entry of a source that answers is what a get of its key finds there
 pub record Answered (g : Geometry) (t : ℕ) (p f : List ℕ) (at : Place) (q i : ℕ) : Type 0 where

@@ -25,7 +25,7 @@ use Rattle.model.proofs.Parts.{getD-mid, length-mid, length-within, mid
 use Rattle.model.proofs.Words.{word-mid, word-within-out}
 use Rattle.model.proofs.Searching.{first-here, first-next, first-end}
 use Rattle.model.proofs.Powers.{one-shifted}
-use Rattle.model.proofs.Sizes.{sizes, buffer-from, buffer-fits, buffer-end}
+use Rattle.model.proofs.Sizes.{sizes, bit-below, buffer-from, buffer-fits, buffer-end}
 use Rattle.model.proofs.Lengths.{length-withBit, length-withBits, length-withEntries, length-withPages}
 
 -- ---- one bit
@@ -76,10 +76,9 @@ within-bit at n xs b l h =
     (sym (sets-mid at n (b / 8) xs (v ∷ []) (omega arith) h))
 
 -- ---- bit i of a key, as b
-module _ (g : Geometry) (ok : allowed g ≡ true) (x i : ℕ) {b : ℕ} (e : b ≡ bitOf g x i) where
+module _ (g : Geometry) (ok : allowed g ≡ true) (x i : ℕ) (one : i < g .hashes) {b : ℕ} (e : b ≡ bitOf g x i) where
   pub bit-byte : b / 8 < filterSize g
-  unfolding bitOf
-  bit-byte = let z = sizes g ok in omega (arith, mod-lt (firstBit x + i * bitStep x) {m = g .bits} (omega arith))
+  bit-byte = omega (arith, bit-below g ok x i one, sizes g ok .bits-is)
 
   -- slot j's bit, by the byte that holds it
   module _ (j : ℕ) (s : List ℕ) where

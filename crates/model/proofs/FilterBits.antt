@@ -2,8 +2,8 @@
 use mathlib.Core.Path.{_≡_, refl, sym, _∙_, ap}
 use mathlib.Core.Bool.{Bool, true, false, _||_, or-true, or-false, or-assoc}
 use mathlib.Core.List.{List, [], _∷_, _++_}
-use Prim.Native.Nat.{ℕ, zero, suc, _+_, _*_, _/_, _<_}
-use native.Mathlib.Nat.{mod-lt, zero-div}
+use Prim.Native.Nat.{ℕ, zero, suc, _+_, _/_, _≤_, _<_}
+use native.Mathlib.Nat.{zero-div}
 use native.Mathlib.Numerals.{add-one}
 use native.Mathlib.Decide.{ℕ-discrete}
 use native.Mathlib.Omega.{arith}
@@ -14,12 +14,12 @@ use Rattle.model.specs.Bytes.{word, zeros}
 use Rattle.model.specs.Keys.{mixed, bitOf}
 use Rattle.model.specs.Records.{keyAt}
 use Rattle.model.specs.Page.{countOf}
-use Rattle.model.specs.Geometry.{filterSize}
+use Rattle.model.specs.Geometry.{allowed, filterSize}
 use Rattle.model.specs.Filter.{isSet, withBit, withBits, withEntries, withPages, filterFor}
 use Rattle.model.specs.declared.Geometry.{Geometry}
 use Rattle.model.proofs.Words.{word-zero}
 use Rattle.model.proofs.Lengths.{length-withBits, length-withEntries, length-withPages}
-use Rattle.model.proofs.Bits.{bit-set, bit-other}
+use Rattle.model.proofs.Bits.{bit-set, bit-other, bit-byte}
 use Rattle.model.proofs.Tables.{Entry, any, anyBelow, bitsBelow, bitsOf, hasBit}
 use Rattle.model.proofs.Entries.{entriesFrom, pageEntries, entries-last}
 
@@ -45,17 +45,13 @@ or-swap true y z = rw or-true
 or-swap false y z = rw or-false
 
 -- ---- the bits of a filter that is made
-module _ (g : Geometry) (size : g .bits ≡ 8 * filterSize g) (any-bit : 0 < g .bits) (b : ℕ) where
-  inside : (x i : ℕ) → bitOf g x i < g .bits
-  unfolding bitOf
-  inside x i = mod-lt _ any-bit
-
-  set-withBits : (x i : ℕ) (f : List ℕ) → length f ≡ filterSize g → isSet (withBits g x i f) b ≡ any (eqb b) (bitsBelow g x i) || isSet f b
+module _ (g : Geometry) (ok : allowed g ≡ true) (b : ℕ) where
+  set-withBits : (x i : ℕ) (f : List ℕ) → i ≤ g .hashes → length f ≡ filterSize g → isSet (withBits g x i f) b ≡ any (eqb b) (bitsBelow g x i) || isSet f b
   unfolding withBits bitsBelow any
-  set-withBits x zero f e = refl
-  set-withBits x (suc i) f e =
-      set-withBit (bitOf g x i) b (withBits g x i f) (omega (arith, inside x i, length-withBits g x i f))
-      ∙ rw (set-withBits x i f e) (sym (or-assoc (eqb b (bitOf g x i)) (any (eqb b) (bitsBelow g x i)) (isSet f b)))
+  set-withBits x zero f l e = refl
+  set-withBits x (suc i) f l e =
+      set-withBit (bitOf g x i) b (withBits g x i f) (omega (arith, bit-byte g ok x i l refl, length-withBits g x i f))
+      ∙ rw (set-withBits x i f (omega arith) e) (sym (or-assoc (eqb b (bitOf g x i)) (any (eqb b) (bitsBelow g x i)) (isSet f b)))
 
   -- an entry that sets the bit
   abbrev sets-it : Entry → Bool
@@ -71,7 +67,7 @@ module _ (g : Geometry) (size : g .bits ≡ 8 * filterSize g) (any-bit : 0 < g .
   set-withEntries p (suc i) f e =
       let here = any (eqb b) (bitsOf g (keyAt p (i + 1))) in
       let before = any sets-it (entriesFrom 8 i 1 p) in
-      set-withBits (mixed (keyAt p (i + 1))) (g .hashes) (withEntries g p i f) (length-withEntries g p i f ∙ e)
+      set-withBits (mixed (keyAt p (i + 1))) (g .hashes) (withEntries g p i f) (omega arith) (length-withEntries g p i f ∙ e)
       ∙ ap (λ (t : Bool). here || t) (set-withEntries p i f e) ∙ or-swap here before (isSet f b)
       ∙ ap (λ (t : Bool). t || isSet f b) (sym (one-more p i))
 

@@ -14,7 +14,7 @@ use Rattle.model.specs.Keys.{partitionOf, pageOf}
 use Rattle.model.specs.Page.{countOf, searched, expected}
 use Rattle.model.specs.DeleteList.{listedAt}
 use Rattle.model.specs.Partition.{listedOf, listOf, bufferOf, passing}
-use Rattle.model.specs.Answers.{absent, refused, tally, buffer, batch}
+use Rattle.model.specs.Answers.{Tally, absent, refused, tally, pageRead, buffer, batch}
 use Rattle.model.specs.Batch.{batchPage}
 use Rattle.model.specs.Get.{hitIn, readThrough, sought}
 use Rattle.model.proofs.Sizes.{sizes}
@@ -53,15 +53,15 @@ module _ (g : Geometry) (t n q : ℕ) (p : List ℕ) where
   expected-fits ok h = omega (arith, sizes g ok .page-is, expected-head h .fits)
 
 module _ (g : Geometry) (k : ℕ) (f : List ℕ) where
-  -- ---- through batches, after so many reads
-  pub read-none : (reads : ℕ) → readThrough g k f [] reads ≡ absent (tally reads)
+  -- ---- through batches, after a cost
+  pub read-none : (c : Tally) → readThrough g k f [] c ≡ absent c
   unfolding readThrough
-  read-none reads = refl
+  read-none c = refl
 
-  pub read-batch : (n : ℕ) (ns : List ℕ) (reads : ℕ) → let page = batchPage g (partitionOf g k) f n (pageOf g k) in
-      readThrough g k f (n ∷ ns) reads ≡ cond (expected g (partitionOf g k) n (pageOf g k) page) (hitIn page (reads + 1) (batch n) (searched k page) (readThrough g k f ns (reads + 1))) (refused 13 (reads + 1))
+  pub read-batch : (n : ℕ) (ns : List ℕ) (c : Tally) → let page = batchPage g (partitionOf g k) f n (pageOf g k) in
+      readThrough g k f (n ∷ ns) c ≡ cond (expected g (partitionOf g k) n (pageOf g k) page) (hitIn page (pageRead c) (batch n) (searched k page) (readThrough g k f ns (pageRead c))) (refused 13 (c .reads + 1))
   unfolding readThrough
-  read-batch n ns reads = refl
+  read-batch n ns c = refl
 
   -- ---- a listed key, and any other
   module _ (p : List ℕ) where
@@ -70,6 +70,6 @@ module _ (g : Geometry) (k : ℕ) (f : List ℕ) where
     sought-listed i e = rw e
 
     pub sought-unlisted : listedAt (listedOf p) k (listOf g p) ≡ none → let page = bufferOf g p (pageOf g k) in
-        sought g k p f ≡ hitIn page 0 buffer (searched k page) (readThrough g k f (passing g k p) 0)
+        sought g k p f ≡ hitIn page (tally 0) buffer (searched k page) (readThrough g k f (passing g k p) (tally 0))
     unfolding sought
     sought-unlisted e = rw e

@@ -4,16 +4,18 @@ use mathlib.Core.Bool.{Bool, true, false, not, _&&_, _||_, or-true}
 use mathlib.Core.List.{List, [], _∷_}
 use mathlib.Core.Option.{Option, none, some}
 use Prim.Native.Nat.{ℕ, zero, suc, _+_, _-_, _≤_, _<_}
-use native.Mathlib.Nat.{add-zero, zero-add, mod-lt}
+use native.Mathlib.Nat.{add-zero, zero-add}
 use native.Mathlib.Decide.{ℕ-discrete}
 use native.Mathlib.Omega.{arith}
 use lib.Dec.{eqb}
 use borrow.Author.Tests.{eqb-true, eq-eqb}
 use Rattle.model.specs.declared.Geometry.{Geometry}
 use Rattle.model.specs.Search.{firstFrom, anyFrom}
+use Rattle.model.specs.Geometry.{allowed}
 use Rattle.model.specs.Keys.{mixed, bitOf}
 use Rattle.model.specs.Filter.{passes}
 use Rattle.model.specs.Partition.{flushesOf, liveOf, slot, slotBits, batchPasses, passingFrom, passing}
+use Rattle.model.proofs.Sizes.{bit-below}
 use Rattle.model.proofs.Tests.{either}
 use Rattle.model.proofs.Tables.{Entry, find, any, all, anyBelow, bitsBelow, bitsOf, hasBit, passesIn}
 
@@ -46,20 +48,20 @@ module _ (g : Geometry) (x : ℕ) (bits : ℕ → Bool) where
   passes-all = none-missing (g .hashes)
 
 -- so it is had from the bits below M alone
-module _ (g : Geometry) (any-bit : 0 < g .bits) (x : ℕ) (bits bits′ : ℕ → Bool) (same : (b : ℕ) → b < g .bits → bits b ≡ bits′ b) where
-  all-same : (n : ℕ) → all bits (bitsBelow g x n) ≡ all bits′ (bitsBelow g x n)
-  unfolding all bitsBelow bitOf
-  all-same zero = refl
-  all-same (suc n) = rw (same (bitOf g x n) (mod-lt _ any-bit), all-same n)
+module _ (g : Geometry) (ok : allowed g ≡ true) (x : ℕ) (bits bits′ : ℕ → Bool) (same : (b : ℕ) → b < g .bits → bits b ≡ bits′ b) where
+  all-same : (n : ℕ) → n ≤ g .hashes → all bits (bitsBelow g x n) ≡ all bits′ (bitsBelow g x n)
+  unfolding all bitsBelow
+  all-same zero l = refl
+  all-same (suc n) l = rw (same (bitOf g x n) (bit-below g ok x n l), all-same n (omega arith))
 
   pub passes-same : passes g x bits ≡ passes g x bits′
-  passes-same = passes-all g x bits ∙ all-same (g .hashes) ∙ sym (passes-all g x bits′)
+  passes-same = passes-all g x bits ∙ all-same (g .hashes) (omega arith) ∙ sym (passes-all g x bits′)
 
 -- and a batch passes a key as any bits do that its slot has
-pub batch-passes : (g : Geometry) → 0 < g .bits → (k : ℕ) (p : List ℕ) (n : ℕ) (bits : ℕ → Bool) → ((b : ℕ) → b < g .bits → slotBits g p (slot g n) b ≡ bits b)
+pub batch-passes : (g : Geometry) → allowed g ≡ true → (k : ℕ) (p : List ℕ) (n : ℕ) (bits : ℕ → Bool) → ((b : ℕ) → b < g .bits → slotBits g p (slot g n) b ≡ bits b)
     → batchPasses g k p n ≡ passes g (mixed k) bits
 unfolding batchPasses
-batch-passes g any-bit k p n bits same = passes-same g any-bit (mixed k) (slotBits g p (slot g n)) bits same
+batch-passes g ok k p n bits same = passes-same g ok (mixed k) (slotBits g p (slot g n)) bits same
 
 -- ---- the bits of a batch
 all-true : (f : ℕ → Bool) (l : List ℕ) → ((b : ℕ) → any (eqb b) l ≡ true → f b ≡ true) → all f l ≡ true

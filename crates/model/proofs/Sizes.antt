@@ -9,7 +9,7 @@ use lib.Dec.{leb}
 use lib.Pow.{shr-lt}
 use borrow.Author.Tests.{leb-true, le-leb}
 use Rattle.model.specs.Geometry.{between, isPower, allowed, partitions, capacity, mostEntries, filterSize, filterAt, bufferAt, stride, partitionAt, memoryNeed, slotPageAt, flashNeed}
-use Rattle.model.specs.Keys.{partitionOf, pageOf}
+use Rattle.model.specs.Keys.{partitionOf, pageOf, bitOf}
 use Rattle.model.specs.Partition.{slot}
 use Rattle.model.specs.declared.Geometry.{Geometry}
 use Rattle.model.proofs.Tests.{both-true}
@@ -212,6 +212,11 @@ module _ (g : Geometry) (ok : allowed g ≡ true) where
   pub page-of-lt : (k : ℕ) → pageOf g k < g .pages
   unfolding pageOf
   page-of-lt k = mod-lt _ (sizes g ok .pages-min)
+
+  -- bit i of a mixed key, of the h that it has
+  pub bit-below : (x i : ℕ) → i < g .hashes → bitOf g x i < g .bits
+  unfolding bitOf
+  bit-below x i l = mod-lt _ (omega (arith, sizes g ok .bits-min))
 
   pub slot-lt : (n : ℕ) → slot g n < g .kept
   slot-lt n = mod-lt (n - 1) (sizes g ok .kept-min)

@@ -1,5 +1,5 @@
 -- What the calls answer, with this paper's numbers and values.
-use Prim.Native.Nat.{ℕ}
+use Prim.Native.Nat.{ℕ, _+_}
 use mathlib.Core.List.{List}
 use Rattle.model.specs.Bytes.{mid}
 
@@ -28,6 +28,10 @@ pub record Tally : Type 0 where
 
 abbrev pub tally : ℕ → Tally
 tally reads = record { reads = reads }
+
+-- one page more
+abbrev pub pageRead : Tally → Tally
+pageRead c = tally (c .reads + 1)
 
 -- a refusal's number, and the pages read before it
 pub record Refusal : Type 0 where

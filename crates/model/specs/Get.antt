@@ -8,7 +8,7 @@ use Rattle.model.specs.Page.{valueAt, searched, expected}
 use Rattle.model.specs.DeleteList.{listedAt}
 use Rattle.model.specs.Partition.{listedOf, listOf, bufferOf, passing}
 use Rattle.model.specs.Batch.{batchPage}
-use Rattle.model.specs.Answers.{Refusal, Answer, found, absent, refused, tally, Place, buffer, batch}
+use Rattle.model.specs.Answers.{Refusal, Answer, found, absent, refused, Tally, tally, pageRead, Place, buffer, batch}
 use Rattle.model.specs.Refusals.{refuseIf, keyOverfull}
 use Rattle.model.specs.declared.Geometry.{Geometry}
 
@@ -17,24 +17,24 @@ unfoldable pub getChecks : Geometry → ℕ → List ℕ → Option Refusal
 getChecks g k p = refuseIf (keyOverfull g k p) 12 none
 
 -- what a search of a page answers, and otherwise
-abbrev pub hitIn : List ℕ → ℕ → Place → Option ℕ → Answer → Answer
-hitIn page reads place (some i) later = found (valueAt page i) (tally reads) place
-hitIn page reads place none later = later
+abbrev pub hitIn : List ℕ → Tally → Place → Option ℕ → Answer → Answer
+hitIn page c place (some i) later = found (valueAt page i) c place
+hitIn page c place none later = later
 
--- through these batches, after so many reads; 13 counts the failed page too
-unfoldable pub readThrough : Geometry → ℕ → List ℕ → List ℕ → ℕ → Answer
-readThrough g k f [] reads = absent (tally reads)
-readThrough g k f (n ∷ ns) reads =
+-- through these batches, after this cost; 13 counts the failed page too
+unfoldable pub readThrough : Geometry → ℕ → List ℕ → List ℕ → Tally → Answer
+readThrough g k f [] c = absent c
+readThrough g k f (n ∷ ns) c =
     let page : List ℕ = batchPage g (partitionOf g k) f n (pageOf g k) in
     cond (expected g (partitionOf g k) n (pageOf g k) page)
-    (hitIn page (reads + 1) (batch n) (searched k page) (readThrough g k f ns (reads + 1)))
-    (refused 13 (reads + 1))
+    (hitIn page (pageRead c) (batch n) (searched k page) (readThrough g k f ns (pageRead c)))
+    (refused 13 (c .reads + 1))
 
 abbrev pub soughtIn : Option ℕ → Geometry → ℕ → List ℕ → List ℕ → Answer
 soughtIn (some i) g k p f = absent (tally 0)
 soughtIn none g k p f =
     let page : List ℕ = bufferOf g p (pageOf g k) in
-    hitIn page 0 buffer (searched k page) (readThrough g k f (passing g k p) 0)
+    hitIn page (tally 0) buffer (searched k page) (readThrough g k f (passing g k p) (tally 0))
 
 -- the answer, from the key's partition with the bytes p and from flash
 unfoldable pub sought : Geometry → ℕ → List ℕ → List ℕ → Answer

@@ -22,13 +22,13 @@ unfolding withBits
 loop-holds c = (omega arith, refl, sym (within-id _ _ _ _ (c .before .pre .1) refl))
 
 add-byte : tie.Need-add-byte Inv-loop μ-loop
-add-byte c = omega (arith, bit-byte _ (c .before .before .before .before .before .pre .0) _ _ (c .bit-of .ensures))
+add-byte c = omega (arith, bit-byte _ (c .before .before .before .before .before .pre .0) _ _ (c .before .if1 .taken) (c .bit-of .ensures))
 
 slice-read-s : tie.Need-slice-read-s Inv-loop μ-loop
-slice-read-s c = omega (arith, bit-byte _ (c .before .before .before .before .before .before .pre .0) _ _ (c .before .bit-of .ensures))
+slice-read-s c = omega (arith, bit-byte _ (c .before .before .before .before .before .before .pre .0) _ _ (c .before .before .if1 .taken) (c .before .bit-of .ensures))
 
 loop-again : tie.Need-loop-again Inv-loop μ-loop
-loop-again c = let p = c .before .before .before .before .before .before .pre in (omega arith, simp length-set (omega arith), bit-added _ (p .0) _ _ (c .before .bit-of .ensures) _ _ _ (p .1) (c .before .before .before .before .loop .inv .2))
+loop-again c = let p = c .before .before .before .before .before .before .pre in (omega arith, simp length-set (omega arith), bit-added _ (p .0) _ _ (c .before .before .if1 .taken) (c .before .bit-of .ensures) _ _ _ (p .1) (c .before .before .before .before .loop .inv .2))
 
 returns : tie.Need-returns Inv-loop μ-loop
 returns c = let e : c .before .before .loop .done ≡ c .before .before .before .before .args .g .hashes = omega arith in cc

@@ -25,22 +25,22 @@ loop-holds : tie.Need-loop-holds Inv-loop μ-loop
 loop-holds c = pass-all _ _ _
 
 add-if2 : tie.Need-add-if2 Inv-loop μ-loop
-add-if2 c = omega (arith, inside (c .before .before .before .before), bit-byte _ (c .before .before .before .before .before .before .pre .0) _ _ (c .bit-of .ensures))
+add-if2 c = omega (arith, inside (c .before .before .before .before), bit-byte _ (c .before .before .before .before .before .before .pre .0) _ _ (c .before .if1 .taken) (c .bit-of .ensures))
 
 shared-slice-read-if2 : tie.Need-shared-slice-read-if2 Inv-loop μ-loop
-shared-slice-read-if2 c = omega (arith, inside (c .before .before .before .before .before), bit-byte _ (c .before .before .before .before .before .before .before .pre .0) _ _ (c .before .bit-of .ensures))
+shared-slice-read-if2 c = omega (arith, inside (c .before .before .before .before .before), bit-byte _ (c .before .before .before .before .before .before .before .pre .0) _ _ (c .before .before .if1 .taken) (c .before .bit-of .ensures))
 
 returns : tie.Need-returns Inv-loop μ-loop
 returns c =
     let s = c .before .before .before .before .before .before .before .before in
     let byte = c .if2 .taken in
-    sym (c .before .before .before .before .before .loop .inv ∙ pass-miss _ _ _ _ (c .before .before .before .if1 .taken) (bit-clear _ (s .pre .0) _ _ (c .before .before .bit-of .ensures) _ _ (rw (c .before .before .before .before .before .before .filter-at .ensures) at byte)))
+    sym (c .before .before .before .before .before .loop .inv ∙ pass-miss _ _ _ _ (c .before .before .before .if1 .taken) (bit-clear _ (s .pre .0) _ _ (c .before .before .before .if1 .taken) (c .before .before .bit-of .ensures) _ _ (rw (c .before .before .before .before .before .before .filter-at .ensures) at byte)))
 
 loop-again : tie.Need-loop-again Inv-loop μ-loop
 loop-again c =
     let s = c .before .before .before .before .before .before .before .before in
     let byte = c .if2 .left in
-    c .before .before .before .before .before .loop .inv ∙ pass-next _ _ _ _ (c .before .before .before .if1 .taken) (bit-there _ (s .pre .0) _ _ (c .before .before .bit-of .ensures) _ _ (rw (c .before .before .before .before .before .before .filter-at .ensures) at byte))
+    c .before .before .before .before .before .loop .inv ∙ pass-next _ _ _ _ (c .before .before .before .if1 .taken) (bit-there _ (s .pre .0) _ _ (c .before .before .before .if1 .taken) (c .before .before .bit-of .ensures) _ _ (rw (c .before .before .before .before .before .before .filter-at .ensures) at byte))
 
 returns-2 : tie.Need-returns-2 Inv-loop μ-loop
 returns-2 c = sym (c .before .before .loop .inv ∙ pass-end _ _ _ _ (c .if1 .left))
