@@ -17,7 +17,8 @@ use Rattle.model.specs.Refusals.{headOverfull, keyOverfull, totalOut}
 use Rattle.model.specs.Del.{isListed, stampFor, delChecks, unbuffered, listedWith, deleted}
 use Rattle.model.proofs.Tests.{either}
 use Rattle.model.proofs.Heads.{head-fits, total-in, in-total, total-below}
-use Rattle.model.proofs.Checks.{key-fits, del-12, del-full, removes-listed, removes-taken}
+use Rattle.model.proofs.Checks.{key-fits}
+use Rattle.model.proofs.KeyedChecks.{del-12, del-full, removes-listed, removes-taken}
 use Rattle.model.proofs.PartitionsCalls.{deleted-listed, deleted-stamped}
 use Rattle.answers.specs.Told.{asRefusal, ofRefusal}
 use Rattle.del.specs.declared.Youngest.{Youngest}

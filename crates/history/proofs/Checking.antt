@@ -15,13 +15,14 @@ use Rattle.model.specs.Keys.{partitionOf, pageOf}
 use Rattle.model.specs.Partition.{partition, headOf, isLive}
 use Rattle.model.specs.Answers.{Areas, Refusal, unread}
 use Rattle.model.specs.Refusals.{refuseIf, unopened, headOverfull, keyOverfull, somePageOverfull, lastFlush}
-use Rattle.model.specs.Put.{noPosition, due}
+use Rattle.model.specs.Put.{noPosition, due, roomChecks}
 use Rattle.model.specs.PartitionText.{partitionText}
 use Rattle.model.specs.Calls.{put, get, del, flush, view, count, text, drop, geometryIn, checks}
 use Rattle.model.proofs.Sizes.{page-of-lt, partition-of-lt}
 use Rattle.model.proofs.Tests.{numbers, either}
 use Rattle.model.proofs.Heads.{fits-head}
-use Rattle.model.proofs.Checks.{fits-page, fits-pages, fits-key, get-passes, put-21, put-undue, put-due, del-full, due-last, flush-4, flush-last, drop-4, drop-23, drop-read, count-4, count-passes, text-4, text-room, view-4, view-last}
+use Rattle.model.proofs.Checks.{fits-page, fits-pages, fits-key, due-last, flush-4, flush-last, drop-4, drop-23, drop-read, count-4, count-passes, text-4, text-room, view-4, view-last}
+use Rattle.model.proofs.KeyedChecks.{get-passes, room-undue, room-due, put-21, put-room, del-full}
 use Rattle.model.proofs.Calls.{checks-put, checks-get, checks-del, checks-flush, checks-view, checks-count, checks-text, checks-drop}
 use Rattle.history.specs.History.{History}
 use Rattle.history.proofs.Table.{Part, inUse, mustList, due as dueIn}
@@ -136,19 +137,22 @@ module _ {a : Areas} {h : History} (inv : InStep a h) where
     pub get-checks : checks a (get k) ≡ none
     get-checks = checks-get a g own opening k ∙ get-passes g k _ key-ok
 
-    -- the value is no position; or a flush is due, and no flush number is left
-    pub put-checks : (v : ℕ) → checks a (put k v) ≡ refuseIf (noPosition v) 21 (refuseIf (dueIn g k here && eqb (here .flushes) lastFlush) 16 none)
-    put-checks v =
+    -- a flush is due, and no flush number is left: whatever the value, so one stands for all
+    pub room-checks : roomChecks g k bytes (a .flash) ≡ refuseIf (dueIn g k here && eqb (here .flushes) lastFlush) 16 none
+    room-checks =
         let f : List ℕ = a .flash in
         let is-due : due g k bytes ≡ dueIn g k here = due-shown g ok t bytes f here (at t below) k in
-        checks-put a g own opening k v
-        ∙ either (noPosition v)
-        (λ no. put-21 g k bytes v f no ∙ rw no)
-        (λ yes. either (dueIn g k here)
-        (λ d. put-due g k bytes v f yes key-ok (is-due ∙ d) (pages-ok t below)
-        ∙ due-last g t 1 bytes f (heads-shown g ok t bytes f here (at t below) (part t below)) (flushed-put-in g ok t bytes f here (was t below) (part t below) k v)
-        ∙ rw (yes, d, at t below .flushes))
-        (λ d. put-undue g k bytes v f yes key-ok (is-due ∙ d) ∙ rw (put-in g ok t bytes f here (was t below) (part t below) k v d, yes, d)))
+        either (dueIn g k here)
+        (λ d. room-due g k bytes f key-ok (is-due ∙ d) (pages-ok t below)
+        ∙ due-last g t 1 bytes f (heads-shown g ok t bytes f here (at t below) (part t below)) (flushed-put-in g ok t bytes f here (was t below) (part t below) k 0)
+        ∙ rw (d, at t below .flushes))
+        (λ d. room-undue g k bytes f key-ok (is-due ∙ d) ∙ rw (put-in g ok t bytes f here (was t below) (part t below) k 0 d, d))
+
+    -- or the value is no position
+    pub put-checks : (v : ℕ) → checks a (put k v) ≡ refuseIf (noPosition v) 21 (refuseIf (dueIn g k here && eqb (here .flushes) lastFlush) 16 none)
+    put-checks v = checks-put a g own opening k v ∙ either (noPosition v)
+        (λ no. put-21 g k bytes v (a .flash) no ∙ rw no)
+        (λ yes. put-room g k bytes v (a .flash) yes ∙ room-checks ∙ rw yes)
 
     -- the key must be listed, and no place is free
     pub del-checks : checks a (del k) ≡ refuseIf (mustList g k here && eqb (length (here .list)) (g .list)) 14 none

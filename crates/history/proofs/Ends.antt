@@ -22,7 +22,7 @@ use Rattle.model.proofs.Lengths.{length-buffered, length-unbuffered}
 use Rattle.model.proofs.Tests.{either}
 use Rattle.model.proofs.Tables.{find, store}
 use Rattle.model.proofs.Heads.{HeadWords, in-total, total-dropped}
-use Rattle.model.proofs.Checks.{removes-taken}
+use Rattle.model.proofs.KeyedChecks.{removes-taken}
 use Rattle.model.proofs.Totals.{total-buffered, total-unlisted, total-listed, total-unbuffered, total-flushed}
 use Rattle.model.proofs.PartitionsCalls.{laid-buffered, laid-unbuffered, laid-dropped, put-kept, put-flushed, deleted-listed, deleted-stamped}
 use Rattle.history.proofs.Table.{Part, mustList, due as dueIn, flushed as flushedPart, dropped as droppedPart, stored as storedPart, deleted as deletedPart}

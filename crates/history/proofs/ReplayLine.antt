@@ -16,7 +16,7 @@ use Rattle.model.specs.PartitionText.{putText}
 use Rattle.model.specs.Calls.{put, checks, reply, after}
 use Rattle.model.proofs.Sizes.{sizes}
 use Rattle.model.proofs.Partitions.{modify-at}
-use Rattle.model.proofs.Checks.{a-position}
+use Rattle.model.proofs.KeyedChecks.{a-position}
 use Rattle.model.proofs.Calls.{reply-accepted, after-done}
 use Rattle.history.specs.History.{History, aged}
 use Rattle.history.specs.Claim.{isRefused}

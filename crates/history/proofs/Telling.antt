@@ -1,6 +1,6 @@
 -- A text that is accepted, on any areas of bytes, tells what gets of the partition's keys find.
 use Prim.Native.Nat.{ℕ, _+_, _≤_, _<_}
-use mathlib.Core.Bool.{true, false, cond, false≢true}
+use mathlib.Core.Bool.{true, false, cond}
 use mathlib.Core.Path.{_≡_, refl, sym, _∙_, ap}
 use mathlib.Core.List.{List, [], _∷_}
 use mathlib.Core.Option.{none}
@@ -20,14 +20,13 @@ use Rattle.model.specs.Calls.{get, text, geometryIn, partitionIn, checks, reply
 use Rattle.model.proofs.Tests.{either}
 use Rattle.model.proofs.Parts.{mid-bytes}
 use Rattle.model.proofs.Words.{word-lt}
-use Rattle.model.proofs.Calls.{result-text}
 use Rattle.model.proofs.Joining.{joined-empty, joined-one, entry-line, entry-none, page-text, source-text, partition-text}
 use Rattle.model.proofs.Answering.{Standing, answers-with, found-stands}
 use Rattle.model.proofs.AnsweringOnce.{answers-once}
 use Rattle.model.proofs.TextGets.{text-flushed, text-page, get-seeks, get-accepted}
 use Rattle.history.specs.Claim.{isRefused, said}
 use Rattle.history.specs.Telling.{AreBytes, valueSaid, Tells, TextTells}
-use Rattle.history.proofs.FromFormat.{outcome}
+use Rattle.history.proofs.FromFormat.{not-refused}
 use Rattle.history.proofs.Putting.{Puts, puts-none, puts-same, puts-line, puts-joined, all-lines}
 
 unrefused : (x : Answer) → ((n r : ℕ) → x ≡ refused n r → ⊥) → isRefused x ≡ false
@@ -143,7 +142,4 @@ module _ (a : Areas) (memory : AreBytes (a .memory)) (flash : AreBytes (a .flash
 
 pub text-tells : TextTells
 unfolding TextTells
-text-tells a memory flash t room accepted = outcome a (text t room) _ (λ b x. isRefused x ≡ false → Tells a t) (result-text a (geometryIn a) refl t room)
-    (λ m r e. absurd (false≢true (sym e)))
-    (λ passed e. tells a memory flash t room passed)
-    accepted
+text-tells a memory flash t room accepted = tells a memory flash t room (not-refused a (text t room) accepted)

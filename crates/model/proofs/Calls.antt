@@ -28,7 +28,8 @@ use Rattle.model.specs.PartitionText.{partitionText, textChecks}
 use Rattle.model.specs.Drop.{dropChecks, dropIn}
 use Rattle.model.specs.Calls.{Call, format, put, get, del, flush, view, count, text, drop, geometryIn, keyPartition, checks, result, reply, effect, unlessRefused, after, textLeft}
 use Rattle.model.proofs.Tests.{neither}
-use Rattle.model.proofs.Checks.{refuse-none, position-not-0, put-accepted}
+use Rattle.model.proofs.Checks.{refuse-none}
+use Rattle.model.proofs.KeyedChecks.{position-not-0, put-accepted}
 
 -- ---- 2, 11, 2, 3: what passing them gives, and what it takes
 module _ (a : Areas) where

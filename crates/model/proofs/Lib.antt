@@ -20,6 +20,7 @@ pub mod Partitions
 pub mod PartitionsFlash
 pub mod PartitionsFormat
 pub mod Checks
+pub mod KeyedChecks
 pub mod PartitionsCalls
 pub mod Totals
 pub mod Lookup

@@ -24,7 +24,7 @@ use Rattle.model.proofs.Parts.{length-mid}
 use Rattle.model.proofs.Sizes.{sizes, page-of-lt, slot-lt, buffer-fits}
 use Rattle.model.proofs.Lengths.{length-stored, length-without, length-struck, length-enlisted, length-expired, length-filterFor}
 use Rattle.model.proofs.Heads.{HeadWords, words-listed, words-unlisted, words-totalled, words-after, words-dropped}
-use Rattle.model.proofs.Checks.{appends-due}
+use Rattle.model.proofs.KeyedChecks.{appends-due}
 use Rattle.model.proofs.Partitions.{modify, Laid, laid, list-fits, laid-head, laid-list, laid-filter, laid-buffer, laid-emptied}
 
 module _ (g : Geometry) (ok : allowed g ≡ true) (p : List ℕ) (long : length p ≡ stride g) where

@@ -14,7 +14,7 @@ use Rattle.model.specs.Page.{searched, expected}
 use Rattle.model.specs.DeleteList.{listedAt}
 use Rattle.model.specs.Partition.{partition, headOf, listedOf, listOf, flushesOf, liveOf, bufferOf, isLive, oldest, batchPasses, passingFrom, passing}
 use Rattle.model.specs.Batch.{batchPage, failedPage}
-use Rattle.model.specs.Answers.{Areas, Place, buffer, batch, tally, Answer, absent, refused}
+use Rattle.model.specs.Answers.{Areas, Place, buffer, batch, Tally, tally, pageRead, Answer, absent, refused}
 use Rattle.model.specs.Refusals.{headOverfull, somePageOverfull}
 use Rattle.model.specs.Get.{getChecks, hitIn, readThrough, sought}
 use Rattle.model.specs.PartitionText.{liveBatch, someBatchFails}
@@ -24,7 +24,8 @@ use Rattle.model.proofs.Searching.{first-none}
 use Rattle.model.proofs.Sizes.{page-of-lt}
 use Rattle.model.proofs.Heads.{head-fits, live-bounds, bounds-live}
 use Rattle.model.proofs.Passing.{pass-take, pass-skip, pass-end, passing-from}
-use Rattle.model.proofs.Checks.{none-found, pages-fit, fits-key, get-passes, text-accepted}
+use Rattle.model.proofs.Checks.{none-found, pages-fit, fits-key, text-accepted}
+use Rattle.model.proofs.KeyedChecks.{get-passes}
 use Rattle.model.proofs.Lookup.{read-none, read-batch, sought-listed, sought-unlisted}
 use Rattle.model.proofs.Calls.{Opened, opens, opened, later-passed, checks-get, result-get, reply-accepted}
 
@@ -42,22 +43,22 @@ module _ (g : Geometry) (t : ℕ) (p f : List ℕ) (batches : someBatchFails g t
       not-false _ (first-none (λ j. not (expected g t n j (batchPage g t f n j))) (g .pages) 0 fails q (omega arith) (omega arith))
 
 -- ---- so a get that reads them is not refused
-later-refused : (page : List ℕ) (reads : ℕ) (place : Place) (o : Option ℕ) (later : Answer) (m r : ℕ) → hitIn page reads place o later ≡ refused m r → later ≡ refused m r
-later-refused page reads place none later m r e = e
-later-refused page reads place (some i) later m r e = let z : _≡_ {A = ℕ} 0 1 = cc in absurd (omega arith)
+later-refused : (page : List ℕ) (cost : Tally) (place : Place) (o : Option ℕ) (later : Answer) (m r : ℕ) → hitIn page cost place o later ≡ refused m r → later ≡ refused m r
+later-refused page cost place none later m r e = e
+later-refused page cost place (some i) later m r e = let z : _≡_ {A = ℕ} 0 1 = cc in absurd (omega arith)
 
 module _ (g : Geometry) (k : ℕ) (p f : List ℕ) (flushed : liveOf p ≤ flushesOf p)
     (whole : (n : ℕ) → isLive (headOf p) n ≡ true → expected g (partitionOf g k) n (pageOf g k) (batchPage g (partitionOf g k) f n (pageOf g k)) ≡ true) (m r : ℕ) where
-  through : (count n reads : ℕ) → count ≤ liveOf p → n ≡ flushesOf p - liveOf p + count → readThrough g k f (passingFrom g k p count n) reads ≡ refused m r → ⊥
-  through zero n reads l e x = let a : absent (tally reads) ≡ refused m r = sym (ap (λ ns. readThrough g k f ns reads) (pass-end g k p 0 n (omega arith)) ∙ read-none g k f reads) ∙ x in let z : _≡_ {A = ℕ} 0 1 = cc in omega arith
-  through (suc count) n reads l e x =
+  through : (count n : ℕ) (cost : Tally) → count ≤ liveOf p → n ≡ flushesOf p - liveOf p + count → readThrough g k f (passingFrom g k p count n) cost ≡ refused m r → ⊥
+  through zero n cost l e x = let a : absent cost ≡ refused m r = sym (ap (λ ns. readThrough g k f ns cost) (pass-end g k p 0 n (omega arith)) ∙ read-none g k f cost) ∙ x in let z : _≡_ {A = ℕ} 0 1 = cc in omega arith
+  through (suc count) n cost l e x =
       let less : suc count - 1 ≡ count = omega arith in
       let page : List ℕ = batchPage g (partitionOf g k) f n (pageOf g k) in
       either (batchPasses g k p n)
-      (λ passes. through count (n - 1) (reads + 1) (omega arith) (omega arith)
-      (later-refused page (reads + 1) (batch n) (searched k page) (readThrough g k f (passingFrom g k p count (n - 1)) (reads + 1)) m r
-      (rw (pass-take g k p (suc count) n (omega arith) passes, less, read-batch g k f n (passingFrom g k p count (n - 1)) reads, whole n (bounds-live (headOf p) n (omega arith) (omega arith) (omega arith))) at x)))
-      (λ skips. through count (n - 1) reads (omega arith) (omega arith) (rw (pass-skip g k p (suc count) n (omega arith) skips, less) at x))
+      (λ passes. through count (n - 1) (pageRead cost) (omega arith) (omega arith)
+      (later-refused page (pageRead cost) (batch n) (searched k page) (readThrough g k f (passingFrom g k p count (n - 1)) (pageRead cost)) m r
+      (rw (pass-take g k p (suc count) n (omega arith) passes, less, read-batch g k f n (passingFrom g k p count (n - 1)) cost, whole n (bounds-live (headOf p) n (omega arith) (omega arith) (omega arith))) at x)))
+      (λ skips. through count (n - 1) cost (omega arith) (omega arith) (rw (pass-skip g k p (suc count) n (omega arith) skips, less) at x))
 
   sought-accepted : sought g k p f ≡ refused m r → ⊥
   sought-accepted x = go (listedAt (listedOf p) k (listOf g p)) refl
@@ -66,8 +67,8 @@ module _ (g : Geometry) (k : ℕ) (p f : List ℕ) (flushed : liveOf p ≤ flush
       go (some i) e = let a : absent (tally 0) ≡ refused m r = sym (sought-listed g k f p i e) ∙ x in let z : _≡_ {A = ℕ} 0 1 = cc in omega arith
       go none e =
           let page : List ℕ = bufferOf g p (pageOf g k) in
-          through (liveOf p) (flushesOf p) 0 (omega arith) (omega (arith, flushed))
-          (rw (passing-from g k p) at (later-refused page 0 buffer (searched k page) (readThrough g k f (passing g k p) 0) m r (sym (sought-unlisted g k f p e) ∙ x)))
+          through (liveOf p) (flushesOf p) (tally 0) (omega arith) (omega (arith, flushed))
+          (rw (passing-from g k p) at (later-refused page (tally 0) buffer (searched k page) (readThrough g k f (passing g k p) (tally 0)) m r (sym (sought-unlisted g k f p e) ∙ x)))
 
 -- ---- what an accepted text gives
 module _ (a : Areas) (t room : ℕ) (passed : checks a (text t room) ≡ none) where

@@ -18,7 +18,8 @@ use Rattle.model.specs.Partition.{headOf, totalled, totalOf, bufferOf, partitio
 use Rattle.model.specs.Put.{appends, putChecks, unlisted, buffered, putIn}
 use Rattle.model.specs.Refusals.{headOverfull}
 use Rattle.model.proofs.Calls.{checks-put, result-put, effect-put}
-use Rattle.model.proofs.Checks.{fits-key, appends-new}
+use Rattle.model.proofs.Checks.{fits-key}
+use Rattle.model.proofs.KeyedChecks.{appends-new}
 use Rattle.model.proofs.Entries.{count-emptied}
 use Rattle.model.proofs.Heads.{HeadWords, fits-after}
 use Rattle.model.proofs.Lengths.{length-withBatch, length-totalled, length-buffered, length-flushed, length-unlisted}

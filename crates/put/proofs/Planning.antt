@@ -15,7 +15,8 @@ use Rattle.model.specs.Answers.{Refusal, unread}
 use Rattle.model.specs.Refusals.{refuseIf, keyOverfull, somePageOverfull, totalOut}
 use Rattle.model.specs.Flush.{dueChecks}
 use Rattle.model.specs.Put.{due, appends, putChecks}
-use Rattle.model.proofs.Checks.{key-fits, undue-room, no-position, a-position, appends-found, appends-new, room-12, room-undue, room-12-due, room-due, put-21, put-room, put-accepted, due-accepted}
+use Rattle.model.proofs.Checks.{key-fits, due-accepted}
+use Rattle.model.proofs.KeyedChecks.{undue-room, no-position, a-position, appends-found, appends-new, room-12, room-undue, room-12-due, room-due, put-21, put-room, put-accepted}
 use Rattle.model.proofs.Heads.{HeadWords, head-fits, total-in, in-total, total-above}
 use Rattle.partition.specs.Ready.{Storable, Flushable}
 use Rattle.partition.proofs.Flushing.{flushable}

@@ -6,7 +6,7 @@ use Rattle.model.specs.Answers.{unread}
 use Rattle.model.specs.Keys.{partitionOf}
 use Rattle.model.specs.Partition.{partition}
 use Rattle.model.specs.Refusals.{keyOverfull}
-use Rattle.model.proofs.Checks.{get-12, get-passes}
+use Rattle.model.proofs.KeyedChecks.{get-12, get-passes}
 use Rattle.model.proofs.Calls.{checks-get, result-get, effect-get}
 use Rattle.answers.proofs.Performing.{refusing, looking}
 use Rattle.partition.specs.Ready.{Whole}

@@ -5,7 +5,8 @@ use Rattle.model.specs.Keys.{pageOf}
 use Rattle.model.specs.Page.{countOf}
 use Rattle.model.specs.Partition.{bufferOf}
 use Rattle.model.proofs.Sizes.{page-of-lt}
-use Rattle.model.proofs.Checks.{key-fits, due-kept, due-room, due-full}
+use Rattle.model.proofs.Checks.{key-fits}
+use Rattle.model.proofs.KeyedChecks.{due-kept, due-room, due-full}
 use Rattle.records.proofs.Telling.{told-at}
 use Rattle.put.proofs.is_due.Statement.{statement}
 use Rattle.put.proofs.is_due.Tie as tie
