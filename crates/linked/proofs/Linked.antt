@@ -7,19 +7,18 @@ use mathlib.Core.Path.{_≡_, refl, sym, _∙_, ap, ap₂}
 use Rattle.model.specs.Answers.{Areas, Refusal, Answer, done, found, absent, shown, refused, inMemory, inFlash}
 use Rattle.model.specs.Calls.{Call, format, put, get, del, flush, view, count, text, drop, checks, reply, after, replies}
 use Rattle.model.proofs.Calls.{result-put, reply-refused, reply-accepted}
-use Rattle.history.specs.History as history
-use Rattle.history.specs.History.{History, remember}
-use Rattle.history.specs.Claim as claim
+use Rattle.history.specs.History.{accepted, heard, remember}
+use Rattle.history.specs.Claim.{isRefused}
 use Rattle.answers.specs.Performs.{areas, Performs}
 use Rattle.chain.specs.Chain.{Made, none as no-more, next, heardOf, CallsKeepDemand3}
 use Rattle.chain.proofs.Chain.{calls-keep-demand3}
 use Rattle.exported.specs.declared.MxAnswer.{MxAnswer}
 use Rattle.exported.specs.Exported.{exported, exportedText, exportedBy}
 use Rattle.mortxizal.specs.Exports.{Exports}
-use Rattle.linked.specs.Linked.{isRefused, heard, exportedAll, LinkedCallsKeepDemand3}
+use Rattle.linked.specs.Linked.{isRefusal, heardFrom, exportedAll, LinkedCallsKeepDemand3}
 
 -- Only of a put does the history hear a number, and a put shows no page: there `number` is a size.
-unnumbered : (c : Call) → ((n m : ℕ) → history.accepted c n ≡ history.accepted c m) → (x : Answer) → heard c (exported x) ≡ history.heard c x
+unnumbered : (c : Call) → ((n m : ℕ) → accepted c n ≡ accepted c m) → (x : Answer) → heardFrom c (exported x) ≡ heard c x
 unnumbered c any (done n) = refl
 unnumbered c any (found v t p) = refl
 unnumbered c any (absent t) = refl
@@ -27,14 +26,14 @@ unnumbered c any (shown (inMemory at size)) = any size 0
 unnumbered c any (shown (inFlash at size)) = any size 0
 unnumbered c any (refused n r) = refl
 
-put-heard : (a : Areas) (k v : ℕ) → heard (put k v) (exported (reply a (put k v))) ≡ history.heard (put k v) (reply a (put k v))
+put-heard : (a : Areas) (k v : ℕ) → heardFrom (put k v) (exported (reply a (put k v))) ≡ heard (put k v) (reply a (put k v))
 put-heard a k v = go (checks a (put k v)) refl
   where
-    go : (o : Option Refusal) → checks a (put k v) ≡ o → heard (put k v) (exported (reply a (put k v))) ≡ history.heard (put k v) (reply a (put k v))
+    go : (o : Option Refusal) → checks a (put k v) ≡ o → heardFrom (put k v) (exported (reply a (put k v))) ≡ heard (put k v) (reply a (put k v))
     go (some r) e = rw (reply-refused a (put k v) r e)
     go none e = rw (reply-accepted a (put k v) e, result-put a _ refl k v _ refl)
 
-text-heard : (t room : ℕ) (x : Answer) → heard (text t room) (exportedText x) ≡ history.heard (text t room) x
+text-heard : (t room : ℕ) (x : Answer) → heardFrom (text t room) (exportedText x) ≡ heard (text t room) x
 text-heard t room (done n) = refl
 text-heard t room (found v c p) = refl
 text-heard t room (absent c) = refl
@@ -42,7 +41,7 @@ text-heard t room (shown (inMemory at size)) = refl
 text-heard t room (shown (inFlash at size)) = refl
 text-heard t room (refused n r) = refl
 
-call-heard : (a : Areas) (c : Call) → heard c (exportedBy c (reply a c)) ≡ history.heard c (reply a c)
+call-heard : (a : Areas) (c : Call) → heardFrom c (exportedBy c (reply a c)) ≡ heard c (reply a c)
 call-heard a (format g) = unnumbered (format g) (λ n m. refl) (reply a (format g))
 call-heard a (put k v) = put-heard a k v
 call-heard a (get k) = unnumbered (get k) (λ n m. refl) (reply a (get k))
@@ -64,13 +63,13 @@ unfolding replies
 performed no-more = no-more
 performed (next p ps) = next (record { answers = refl; leaves = p .leaves }) (rw (p .leaves) at (performed ps))
 
-all-heard : (cs : List Call) (a : Areas) → heardOf heard cs (exportedAll cs (replies a cs)) ≡ heardOf history.heard cs (replies a cs)
+all-heard : (cs : List Call) (a : Areas) → heardOf heardFrom cs (exportedAll cs (replies a cs)) ≡ heardOf heard cs (replies a cs)
 unfolding heardOf exportedAll replies
 all-heard [] a = refl
 all-heard (c ∷ cs) a = ap₂ _∷_ (call-heard a c) (all-heard cs (after a c))
 
 -- a format that the struct says was accepted
-format-accepted : (x : Answer) → isRefused (exported x) ≡ false → claim.isRefused x ≡ false
+format-accepted : (x : Answer) → isRefusal (exported x) ≡ false → isRefused x ≡ false
 format-accepted (done n) e = refl
 format-accepted (found v t p) e = refl
 format-accepted (absent t) e = refl
@@ -79,9 +78,9 @@ format-accepted (refused n r) e = e
 
 pub linked-calls-keep-demand3 : LinkedCallsKeepDemand3
 unfolding LinkedCallsKeepDemand3 CallsKeepDemand3 replies
-linked-calls-keep-demand3 m f m′ f′ h g cs r rs (next p ps) accepted fits =
+linked-calls-keep-demand3 m f m′ f′ h g cs r rs (next p ps) opens fits =
     let told = made-told (next p ps) in
-    let opened = format-accepted (reply (areas m f) (format g)) (ap isRefused (sym (p .answers)) ∙ accepted) in
+    let opened = format-accepted (reply (areas m f) (format g)) (ap isRefusal (sym (p .answers)) ∙ opens) in
     let kept = calls-keep-demand3 m f m′ f′ h g cs _ _ (performed (next p ps)) opened fits in
-    let hears = ap (remember h) (ap (heardOf heard (format g ∷ cs)) told ∙ all-heard (format g ∷ cs) (areas m f)) in
+    let hears = ap (remember h) (ap (heardOf heardFrom (format g ∷ cs)) told ∙ all-heard (format g ∷ cs) (areas m f)) in
     (told, rw hears (kept .1))

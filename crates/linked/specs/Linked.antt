@@ -16,12 +16,12 @@ use Rattle.exported.specs.Exported.{exportedBy}
 use Rattle.mortxizal.specs.Exports.{Exports}
 
 -- read off the struct: status 3 is a refusal
-abbrev pub isRefused : MxAnswer → Bool
-isRefused r = eqb (r .status) 3
+abbrev pub isRefusal : MxAnswer → Bool
+isRefusal r = eqb (r .status) 3
 
 -- what the history hears of a call, read off the struct: a put's pages stand in `number`
-abbrev pub heard : Call → MxAnswer → Event
-heard c r = cond (isRefused r) turnedDown (accepted c (r .number))
+abbrev pub heardFrom : Call → MxAnswer → Event
+heardFrom c r = cond (isRefusal r) turnedDown (accepted c (r .number))
 
 -- the answers of a list of calls, each as its function tells it
 unfoldable pub exportedAll : List Call → List Answer → List MxAnswer
@@ -33,5 +33,5 @@ exportedAll (c ∷ cs) (x ∷ xs) = exportedBy c x ∷ exportedAll cs xs
 -- An `mx_text` is among them by the first half of its promise: it leaves both areas as they were, and its text area is its own.
 unfoldable pub LinkedCallsKeepDemand3 : Type 0
 LinkedCallsKeepDemand3 = (m f m′ f′ : List ℕ) (h : History) (g : Geometry) (cs : List Call) (r : MxAnswer) (rs : List MxAnswer)
-    → Made Exports (format g ∷ cs) m f (r ∷ rs) m′ f′ → isRefused r ≡ false → AllFit cs
-    → (r ∷ rs ≡ exportedAll (format g ∷ cs) (replies (areas m f) (format g ∷ cs))) × Kept (format g ∷ cs) m f m′ f′ (remember h (heardOf heard (format g ∷ cs) (r ∷ rs)))
+    → Made Exports (format g ∷ cs) m f (r ∷ rs) m′ f′ → isRefusal r ≡ false → AllFit cs
+    → (r ∷ rs ≡ exportedAll (format g ∷ cs) (replies (areas m f) (format g ∷ cs))) × Kept (format g ∷ cs) m f m′ f′ (remember h (heardOf heardFrom (format g ∷ cs) (r ∷ rs)))
