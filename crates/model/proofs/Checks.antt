@@ -19,7 +19,6 @@ use Rattle.model.specs.Answers.{Areas, Refusal, unread}
 use Rattle.model.specs.Refusals.{refuseIf, refuseHead, headOverfull, pageOverfull, keyOverfull, somePageOverfull, totalOut, lastFlush}
 use Rattle.model.specs.Format.{formatChecks}
 use Rattle.model.specs.Flush.{inUse, dueChecks, flushChecks, pageChecks}
-use Rattle.model.specs.Put.{due}
 use Rattle.model.specs.Drop.{oldestEntries, dropChecks}
 use Rattle.model.specs.View.{viewChecks}
 use Rattle.model.specs.Count.{countChecks}
