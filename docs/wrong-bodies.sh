@@ -2,7 +2,7 @@
 # Writes docs/WRONG_BODIES.md: every edit that the prover has to refuse, by crate, from crates/*/must-fail/*.edit.
 # With --check it writes nothing, and fails where the page is not what it would write.
 # An edit may open with a line that says what is wrong; where it does not, its change is shown.
-# The page ends with how many edits each function and definition has.
+# The page ends with how many edits each function and definition has, which is printed too.
 set -eu
 export LC_ALL=C # one order of files everywhere
 cd "$(dirname "$0")/.."
@@ -79,4 +79,5 @@ if [ "${1:-}" = --check ]; then
     }
 else
     page >docs/WRONG_BODIES.md
+    sed -n '/^## How many each has/,$p' docs/WRONG_BODIES.md
 fi
