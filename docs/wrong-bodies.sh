@@ -58,7 +58,7 @@ page() {
     echo
     echo "## How many each has"
     echo
-    echo "A public call has two, in its own crate and in the one that does its work; another function one, or two where its promise has two halves. So a new edit goes where there is none yet."
+    echo "A public call has two at least, in its own crate and in those below that do its work; another function one, or two where its promise has two halves. So a new edit goes where there is none yet."
     echo
     echo "| crate | functions and definitions |"
     echo "|---|---|"

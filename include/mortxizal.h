@@ -10,9 +10,10 @@
  *
  * Every call is proved, on areas of any length and content, to answer and to
  * leave exactly what documents 01 and 02 say. A refused call has changed no
- * byte of any area. And it is proved of every list of these calls on the same
- * two areas that begins with an accepted mx_format: a get answers what the
- * calls since then and their answers say, whichever of them were refused.
+ * byte of any area. And it is proved of every list of these calls that begins
+ * with an accepted mx_format, on two areas that nobody else writes from then
+ * on: a get answers what the calls since then and their answers say, whichever
+ * of them were refused.
  *
  * What the caller owes, since no C compiler checks it:
  *   - each area is as long as its length says, and may be read, and written
