@@ -1,6 +1,7 @@
 pub mod Bytes
 pub mod Search
 pub mod Geometry
+pub mod Card
 pub mod Opening
 pub mod Keys
 pub mod Records
