@@ -9,6 +9,7 @@ use lib.Dec.{leb}
 use lib.Pow.{shr-lt}
 use borrow.Author.Tests.{leb-true, le-leb}
 use Rattle.model.specs.Geometry.{between, isPower, allowed, partitions, capacity, mostEntries, filterSize, filterAt, bufferAt, stride, partitionAt, memoryNeed, slotPageAt, flashNeed}
+use Rattle.model.specs.Card.{firstLost}
 use Rattle.model.specs.Keys.{partitionOf, pageOf, bitOf}
 use Rattle.model.specs.Partition.{slot}
 use Rattle.model.specs.declared.Geometry.{Geometry}
@@ -196,13 +197,20 @@ module _ (g : Geometry) (ok : allowed g ≡ true) where
   unfolding flashNeed
   flash-max = let z = sizes g ok in mul-le-mul (mul-le-mul (mul-le-mul (z .partitions-max) (z .kept-max)) (z .pages-max)) (z .page-max)
 
+  -- a buffer and K batches
+  sources-max : g .kept + 1 ≤ 33
+  sources-max = omega (arith, sizes g ok .kept-max)
+
+  pub capacity-max : capacity g ≤ 255
+  capacity-max = let z = sizes g ok in omega (arith, z .page-is, z .page-max)
+
   pub most-max : mostEntries g ≤ 538560
   unfolding mostEntries
-  most-max =
-      let z = sizes g ok in
-      let kept : g .kept + 1 ≤ 33 = omega (arith, z .kept-max) in
-      let full : capacity g ≤ 255 = omega (arith, z .page-is, z .page-max) in
-      mul-le-mul (mul-le-mul kept (z .pages-max)) full
+  most-max = mul-le-mul (mul-le-mul sources-max (sizes g ok .pages-max)) capacity-max
+
+  pub lost-max : firstLost g ≤ 8416
+  unfolding firstLost
+  lost-max = omega (arith, mul-le-mul sources-max capacity-max)
 
   -- ---- a key's partition and page, a batch's slot
   pub partition-of-lt : (k : ℕ) → k < 2 ^ 64 → partitionOf g k < partitions g
