@@ -2,13 +2,13 @@
 ghost use mathlib.Core.Bool.{true};
 ghost use mathlib.Core.Path.{_≡_};
 ghost use Rattle.model.specs.Geometry.{allowed};
-ghost use Rattle.model.specs.Card.{mostFlushes, firstLost, figures};
+ghost use Rattle.model.specs.Card.{mostFlushes, firstLost, figured};
 use geometry::flash_need;
 use geometry::is_allowed;
 use geometry::memory_need;
 use geometry::page_capacity;
 use model::Card;
-use model::Figures;
+use model::Figured;
 use model::Geometry;
 
 // The most flushes that the puts cause on a fresh table.
@@ -31,13 +31,13 @@ fn first_lost(g: Geometry) -> u32
 }
 
 // The figures of any geometry, or refusal 1 as in format.
-pub fn figures(g: Geometry, puts: u32) -> Figures
-    ensures { λ r. ⌜ r ≡ figures g puts ⌝ }
+pub fn figures(g: Geometry, puts: u32) -> Figured
+    ensures { λ r. ⌜ r ≡ figured g puts ⌝ }
 {
     if !is_allowed(g) {
-        return Figures::Refused(1);
+        return Figured::Refused(1);
     }
-    Figures::Told(Card {
+    Figured::Done(Card {
         memory: memory_need(g) as u64,
         flash: flash_need(g) as u64,
         flushes: most_flushes(g, puts) as u64,

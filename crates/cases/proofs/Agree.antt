@@ -1,18 +1,23 @@
 -- The bench cases hold, by computation.
 use mathlib.Core.Path.{refl}
+use Rattle.model.specs.Card.{mostFlushes, firstLost, figured}
 use Rattle.model.specs.Text.{figures, past, leading, numberFrom, figure}
 use Rattle.model.specs.Session.{putLine, getLine, delLine, flushLine, countLine, dropLine, formatLine, callOf, answerText, linePrints, lineLeaves, linesOf, zeroArea, linesPrint}
 use Rattle.model.proofs.Computing.{computing}
-use Rattle.cases.specs.Table.{drops, texts, writes, counts, rows, Agree, allFigures, session, formatting, changed, twoPut, allWithLive, written, writing, texted}
+use Rattle.cases.specs.Table.{cards, drops, texts, writes, counts, rows, Agree, allFigures, carried, session, formatting, changed, twoPut, allWithLive, written, writing, texted}
 
 -- what a row opens: the calls, the session's text and the table's own words
 unfoldable opened : Type 0
-unfolding computing Agree allFigures session formatting changed allWithLive twoPut written writing texted figures past leading numberFrom figure putLine getLine delLine flushLine countLine dropLine formatLine callOf answerText linePrints lineLeaves linesOf zeroArea linesPrint
+unfolding computing mostFlushes firstLost figured Agree allFigures carried session formatting changed allWithLive twoPut written writing texted figures past leading numberFrom figure putLine getLine delLine flushLine countLine dropLine formatLine callOf answerText linePrints lineLeaves linesOf zeroArea linesPrint
 opened = Unit {0}
+
+cards-agree : Agree cards
+unfolding opened cards
+cards-agree = (refl, (refl, (refl, (refl, tt))))
 
 drops-agree : Agree drops
 unfolding opened drops
-drops-agree = (refl, (refl, (refl, (refl, (refl, (refl, (refl, (refl, tt))))))))
+drops-agree = (refl, (refl, (refl, (refl, (refl, (refl, (refl, (refl, cards-agree))))))))
 
 texts-agree : Agree texts
 unfolding opened texts

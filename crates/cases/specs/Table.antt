@@ -7,8 +7,10 @@ use mathlib.Core.Option.{Option, none, some}
 use lib.ListN as lists
 use lib.ListN.{take}
 use Rattle.model.specs.declared.Geometry.{Geometry}
+use Rattle.model.specs.declared.Figured.{Figured}
 use Rattle.model.specs.Bytes.{write, zeros}
 use Rattle.model.specs.Geometry.{geometry, G, capacity, memoryNeed, flashNeed}
+use Rattle.model.specs.Card.{figured}
 use Rattle.model.specs.Keys.{mixed, pageOf, bitOf}
 use Rattle.model.specs.Page.{countOf}
 use Rattle.model.specs.Partition.{listedOf, bufferOf, partition}
@@ -66,6 +68,17 @@ figures (refused n r) = refusedWith n r
 unfoldable pub allFigures : List Answer → List (List ℕ)
 allFigures [] = []
 allFigures (a ∷ l) = figures a ∷ allFigures l
+
+-- a card's: memory, flash, flushes and the first loss
+abbrev pub cardWith : ℕ → ℕ → ℕ → ℕ → List ℕ
+cardWith memory flash flushes lost = 0 ∷ memory ∷ flash ∷ flushes ∷ lost ∷ []
+
+abbrev pub told : Figured → List ℕ
+told (Figured.Done c) = cardWith (c .memory) (c .flash) (c .flushes) (c .«first_lost»)
+told (Figured.Refused n) = refusedWith n 0
+
+unfoldable pub carried : Geometry → ℕ → List ℕ
+carried g n = told (figured g n)
 
 -- what these calls answer after a format of just the needed areas with G
 unfoldable pub session : List Call → List (List ℕ)
@@ -191,6 +204,24 @@ untouched = sevens 20
 abbrev pub twice : List Call
 twice = put 1 10 ∷ put 2 20 ∷ flush 0 ∷ put 3 30 ∷ put 1 11 ∷ []
 
+-- nine keys that fill the page three times
+abbrev pub nine : List Call
+nine = map (λ k. put k 1) (0 ∷ 1 ∷ 2 ∷ 3 ∷ 4 ∷ 5 ∷ 6 ∷ 7 ∷ 8 ∷ [])
+
+-- job 7
+unfoldable pub cards : List Row
+cards =
+    -- G: the most flushes of 0, 1, 3, 4 and 7 puts
+    answers (map (carried G) (0 ∷ 1 ∷ 3 ∷ 4 ∷ 7 ∷ []))
+    (cardWith 144 128 0 10 ∷ cardWith 144 128 0 10 ∷ cardWith 144 128 0 10 ∷ cardWith 144 128 1 10 ∷ cardWith 144 128 2 10 ∷ [])
+    -- the largest geometry with the most puts
+    ∷ numbers (carried largest 4294967295) (cardWith 138416160 2147483648 16843008 8416)
+    -- 1, as in format
+    ∷ answers (map (λ g. carried g 7) (withKept 0 ∷ withKept 33 ∷ withHashes 9 ∷ withPages 3 ∷ [])) (refusedWith 1 0 ∷ refusedWith 1 0 ∷ refusedWith 1 0 ∷ refusedWith 1 0 ∷ [])
+    -- the tenth put loses the key of the first
+    ∷ answers (lists.drop 10 (session (nine ++ (get 0 ∷ put 9 1 ∷ get 0 ∷ [])))) (foundWith 1 1 ∷ ok 1 ∷ noneWith 0 ∷ [])
+    ∷ []
+
 -- job 6
 unfoldable pub drops : List Row
 drops =
@@ -214,7 +245,7 @@ drops =
     -- 13 for a head of the batch that goes, and for no other page; 12 where the total does not count its two entries; a buffer page is not read
     ∷ answers (changed (λ m. m) (write 2 4 0) batches (drop 0) ∷ changed (λ m. m) (write 2 4 64) batches (drop 0) ∷ withTotal 1 batches (drop 0) ∷ changed (write 2 4 80) (λ f. f) batches (drop 0) ∷ [])
     (refusedWith 13 1 ∷ ok 0 ∷ refusedWith 12 0 ∷ ok 0 ∷ [])
-    ∷ []
+    ∷ cards
 
 -- job 5
 unfoldable pub texts : List Row

@@ -1,7 +1,9 @@
 -- Demand 3 about the calls themselves: their promises, one after another, are the definitions of the whole list.
 use Prim.Native.Nat.{ℕ}
+use mathlib.Core.Bool.{false}
 use mathlib.Core.List.{List, [], _∷_}
 use mathlib.Core.Path.{_≡_, refl, sym, _∙_, ap, ap₂}
+use Rattle.model.specs.declared.Geometry.{Geometry}
 use Rattle.model.specs.Answers.{Areas, Answer}
 use Rattle.model.specs.Calls.{Call, format, reply, after, run, replies}
 use Rattle.history.specs.History.{History, heard, remember, events}
@@ -18,7 +20,7 @@ unfolding replies
 chain-answers none = refl
 chain-answers (next {cs = cs} p ps) = ap₂ _∷_ (p .answers) (chain-answers ps ∙ ap (λ a. replies a cs) (p .leaves))
 
-chain-leaves : {cs : List Call} {m f m′ f′ : List ℕ} {rs : List Answer} → Made Performs cs m f rs m′ f′ → areas m′ f′ ≡ run (areas m f) cs
+pub chain-leaves : {cs : List Call} {m f m′ f′ : List ℕ} {rs : List Answer} → Made Performs cs m f rs m′ f′ → areas m′ f′ ≡ run (areas m f) cs
 unfolding run
 chain-leaves none = refl
 chain-leaves (next {cs = cs} p ps) = chain-leaves ps ∙ ap (λ a. run a cs) (p .leaves)
@@ -28,6 +30,12 @@ unfolding heardOf replies events
 heard-events [] a = refl
 heard-events (c ∷ cs) a = ap (λ es. heard c (reply a c) ∷ es) (heard-events cs (after a c))
 
+pub chain-heard : {cs : List Call} {m f m′ f′ : List ℕ} {rs : List Answer} → Made Performs cs m f rs m′ f′ → heardOf heard cs rs ≡ events (areas m f) cs
+chain-heard {cs = cs} {m = m} {f = f} ps = ap (heardOf heard cs) (chain-answers ps) ∙ heard-events cs (areas m f)
+
+pub chain-opened : {g : Geometry} {cs : List Call} {m f m′ f′ : List ℕ} {r : Answer} {rs : List Answer} → Made Performs (format g ∷ cs) m f (r ∷ rs) m′ f′ → isRefused r ≡ false → isRefused (reply (areas m f) (format g)) ≡ false
+chain-opened (next p ps) accepted = sym (ap isRefused (p .answers)) ∙ accepted
+
 same-counts : {a a′ : Areas} {h h′ : History} → a′ ≡ a → h′ ≡ h → Counts a h → Counts a′ h′
 same-counts e e′ held = rw (e, e′) held
 
@@ -36,12 +44,11 @@ same-moves e e′ held = rw (e, e′) held
 
 pub calls-keep-demand3 : CallsKeepDemand3
 unfolding CallsKeepDemand3 Demand3 CountsHeld TextMoves
-calls-keep-demand3 m f m′ f′ h g cs r rs (next p ps) accepted fits =
-    let told = chain-answers (next p ps) in
-    let left = chain-leaves (next p ps) in
-    let hears = ap (remember h) (ap (heardOf heard (format g ∷ cs)) told ∙ heard-events (format g ∷ cs) (areas m f)) in
-    let opened = sym (ap isRefused (p .answers)) ∙ accepted in (
-      told,
+calls-keep-demand3 m f m′ f′ h g cs r rs made accepted fits =
+    let left = chain-leaves made in
+    let hears = ap (remember h) (chain-heard made) in
+    let opened = chain-opened made accepted in (
+      chain-answers made,
       record {
         leaves = left;
         holds = rw (left, hears) (demand3 (areas m f) h g opened cs fits);

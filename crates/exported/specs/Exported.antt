@@ -1,9 +1,11 @@
--- An answer as the C interface gives it: one struct for all calls.
+-- What the C interface gives: one struct for the answers of all calls, and one for a card's figures.
 use Prim.Native.Nat.{ℕ, _<_, _^_}
 use Rattle.model.specs.Answers.{Place, buffer, batch, Stretch, inMemory, inFlash, Answer, done, found, absent, shown, refused}
 use Rattle.model.specs.Calls.{Call, format, put, get, del, flush, view, count, text, drop}
+use Rattle.model.specs.declared.Figured.{Figured}
 use Rattle.answers.specs.declared.Viewed.{Viewed}
 use Rattle.exported.specs.declared.MxAnswer.{MxAnswer}
+use Rattle.exported.specs.declared.MxCard.{MxCard}
 
 -- status: 0 done, 1 found, 2 none, 3 refused
 abbrev pub answer : ℕ → ℕ → ℕ → ℕ → ℕ → MxAnswer
@@ -51,3 +53,8 @@ abbrev pub SizeFits : Viewed → Type 0
 SizeFits (Viewed.Memory at size) = size < 2 ^ 32
 SizeFits (Viewed.Flash at size) = size < 2 ^ 32
 SizeFits (Viewed.Refused r) = Unit {0}
+
+-- of a card: done with its figures, or refused
+abbrev pub exportedCard : Figured → MxCard
+exportedCard (Figured.Done c) = record { status = 0; number = 0; memory = c .memory; flash = c .flash; flushes = c .flushes; «first_lost» = c .«first_lost» }
+exportedCard (Figured.Refused n) = record { status = 3; number = n; memory = 0; flash = 0; flushes = 0; «first_lost» = 0 }

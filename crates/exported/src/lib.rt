@@ -1,15 +1,16 @@
-// An answer as the C interface gives it: one struct for all calls.
+// What the C interface gives: one struct for the answers of all calls, and one for a card's figures.
 ghost use mathlib.Core.Path.{_≡_};
 ghost use Prim.Native.Nat.{_<_, _^_};
 ghost use Rattle.model.specs.Answers.{found};
 ghost use Rattle.answers.specs.Told.{asTally, refusing, written, place, answered, viewed};
-ghost use Rattle.exported.specs.Exported.{answer, batchOf, exported, exportedText, SizeFits};
+ghost use Rattle.exported.specs.Exported.{answer, batchOf, exported, exportedText, exportedCard, SizeFits};
 use answers::Answer;
 use answers::Hit;
 use answers::Place;
 use answers::Refusal;
 use answers::Viewed;
 use answers::Written;
+use model::Figured;
 
 #[repr(C)]
 pub struct MxAnswer {
@@ -18,6 +19,16 @@ pub struct MxAnswer {
     pub reads: u32,
     pub batch: u32,
     pub value: u64,
+}
+
+#[repr(C)]
+pub struct MxCard {
+    pub status: u32,
+    pub number: u32,
+    pub memory: u64,
+    pub flash: u64,
+    pub flushes: u64,
+    pub first_lost: u64,
 }
 
 const DONE: u32 = 0;
@@ -132,5 +143,28 @@ pub fn of_viewed(outcome: Viewed) -> MxAnswer
         Viewed::Memory(at, size) => of_page(0, at, size),
         Viewed::Flash(at, size) => of_page(1, at, size),
         Viewed::Refused(refusal) => of_refusal(refusal),
+    }
+}
+
+pub fn of_figures(outcome: Figured) -> MxCard
+    ensures { λ r. ⌜ r ≡ exportedCard outcome ⌝ }
+{
+    match outcome {
+        Figured::Done(card) => MxCard {
+            status: DONE,
+            number: 0,
+            memory: card.memory,
+            flash: card.flash,
+            flushes: card.flushes,
+            first_lost: card.first_lost,
+        },
+        Figured::Refused(number) => MxCard {
+            status: REFUSED,
+            number,
+            memory: 0,
+            flash: 0,
+            flushes: 0,
+            first_lost: 0,
+        },
     }
 }

@@ -4,7 +4,7 @@ use mathlib.Core.Bool.{cond}
 use Rattle.model.specs.Geometry.{allowed, capacity, memoryNeed, flashNeed}
 use Rattle.model.specs.declared.Geometry.{Geometry}
 use Rattle.model.specs.declared.Card.{Card}
-use Rattle.model.specs.declared.Figures.{Figures}
+use Rattle.model.specs.declared.Figured.{Figured}
 
 -- The most flushes that n puts cause on a fresh table: each needs a full page, E puts, and one put more. Of no puts 0, since 0 − 1 is 0 here.
 unfoldable pub mostFlushes : Geometry → ℕ → ℕ
@@ -19,5 +19,5 @@ abbrev pub card : Geometry → ℕ → Card
 card g n = record { memory = memoryNeed g; flash = flashNeed g; flushes = mostFlushes g n; «first_lost» = firstLost g }
 
 -- Refusal 1, as in format.
-unfoldable pub figures : Geometry → ℕ → Figures
-figures g n = cond (allowed g) (Figures.Told (card g n)) (Figures.Refused 1)
+unfoldable pub figured : Geometry → ℕ → Figured
+figured g n = cond (allowed g) (Figured.Done (card g n)) (Figured.Refused 1)

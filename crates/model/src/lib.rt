@@ -18,7 +18,7 @@ pub struct Card {
 }
 
 // A card, or the number of the refusal.
-pub enum Figures {
-    Told(Card),
+pub enum Figured {
+    Done(Card),
     Refused(u32),
 }

@@ -1,13 +1,41 @@
-// The nine calls for C: numbers, and areas as pointer and length. include/mortxizal.h declares them.
+// The nine calls for C, and a card's figures: numbers, and areas as pointer and length. include/mortxizal.h declares them.
+ghost use mathlib.Core.Path.{_≡_};
 ghost use Rattle.model.specs.Geometry.{geometry};
+ghost use Rattle.model.specs.Card.{figured};
 ghost use Rattle.model.specs.Calls.{Call};
+ghost use Rattle.exported.specs.Exported.{exportedCard};
 ghost use Rattle.mortxizal.specs.Exports.{Exports, ExportsText};
 use exported::MxAnswer;
+use exported::MxCard;
 use exported::of_answer;
+use exported::of_figures;
 use exported::of_text;
 use exported::of_viewed;
 use exported::of_written;
 use model::Geometry;
+
+// The numbers of a table, which C hands over one by one.
+fn numbers(
+    s: u32,
+    page: u32,
+    pages: u32,
+    kept: u32,
+    bits: u32,
+    hashes: u32,
+    list: u32,
+) -> Geometry
+    ensures { λ r. ⌜ r ≡ geometry s page pages kept bits hashes list ⌝ }
+{
+    Geometry {
+        parts: s,
+        page,
+        pages,
+        kept,
+        bits,
+        hashes,
+        list,
+    }
+}
 
 #[no_mangle]
 pub extern "C" fn mx_format(
@@ -23,15 +51,7 @@ pub extern "C" fn mx_format(
 ) -> MxAnswer
     ensures { λ r. ⌜ Exports (Call.format (geometry s page pages kept bits hashes list)) (now (memory .entry)) (now (flash .entry)) r (now (memory .exit)) (now (flash .entry)) ⌝ }
 {
-    let g = Geometry {
-        parts: s,
-        page,
-        pages,
-        kept,
-        bits,
-        hashes,
-        list,
-    };
+    let g = numbers(s, page, pages, kept, bits, hashes, list);
     of_written(index::format(memory, flash, g))
 }
 
@@ -100,4 +120,21 @@ pub extern "C" fn mx_drop(memory: &mut [u8], flash: &[u8], partition: u32) -> Mx
     ensures { λ r. ⌜ Exports (Call.drop partition) (now (memory .entry)) (now (flash .entry)) r (now (memory .exit)) (now (flash .entry)) ⌝ }
 {
     of_written(index::drop(memory, flash, partition))
+}
+
+#[no_mangle]
+pub extern "C" fn mx_figures(
+    s: u32,
+    page: u32,
+    pages: u32,
+    kept: u32,
+    bits: u32,
+    hashes: u32,
+    list: u32,
+    puts: u32,
+) -> MxCard
+    ensures { λ r. ⌜ r ≡ exportedCard (figured (geometry s page pages kept bits hashes list) puts) ⌝ }
+{
+    let g = numbers(s, page, pages, kept, bits, hashes, list);
+    of_figures(card::figures(g, puts))
 }

@@ -1,4 +1,5 @@
 -- Without puts the quotient is that of 0; with some, it is the definition's, by a capacity that is not 0.
+use Prim.Native.Nat.{_-_}
 use mathlib.Core.Path.{_≡_}
 use native.Mathlib.Nat.{zero-div}
 use native.Mathlib.Omega.{arith}
@@ -10,7 +11,7 @@ use Rattle.card.proofs.most_flushes.Tie as tie
 
 returns : tie.Need-returns
 unfolding mostFlushes
-returns c = let none : c .before .args .puts ≡ 0 = omega arith in rw (none, zero-div)
+returns c = let none : c .before .args .puts - 1 ≡ 0 = omega arith in rw (none, zero-div)
 
 div-result : tie.Need-div-result
 div-result c = let z = sizes _ (c .before .before .pre) in omega (arith, c .page-capacity .ensures)

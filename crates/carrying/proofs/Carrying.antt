@@ -1,0 +1,4 @@
+use Rattle.carrying.specs.Carrying.{CardCarries}
+
+pub card-carries : CardCarries
+card-carries = ?
