@@ -4,10 +4,11 @@ use mathlib.Core.Bool.{false}
 use mathlib.Core.List.{List, [], _∷_}
 use mathlib.Core.Option.{Option, none, some}
 use mathlib.Core.Path.{_≡_, refl, sym, _∙_, ap, ap₂}
+use Rattle.model.specs.declared.Geometry.{Geometry}
 use Rattle.model.specs.Answers.{Areas, Refusal, Answer, done, found, absent, shown, refused, inMemory, inFlash}
 use Rattle.model.specs.Calls.{Call, format, put, get, del, flush, view, count, text, drop, checks, reply, after, replies}
 use Rattle.model.proofs.Calls.{result-put, reply-refused, reply-accepted}
-use Rattle.history.specs.History.{accepted, heard, remember}
+use Rattle.history.specs.History.{accepted, heard}
 use Rattle.history.specs.Claim.{isRefused}
 use Rattle.answers.specs.Performs.{areas, Performs}
 use Rattle.chain.specs.Chain.{Made, none as no-more, next, heardOf, CallsKeepDemand3}
@@ -58,7 +59,7 @@ unfolding exportedAll replies
 made-told no-more = refl
 made-told (next {cs = cs} p ps) = ap₂ _∷_ (p .answers) (made-told ps ∙ ap (λ a. exportedAll cs (replies a cs)) (p .leaves))
 
-performed : {cs : List Call} {m f m′ f′ : List ℕ} {rs : List MxAnswer} → Made Exports cs m f rs m′ f′ → Made Performs cs m f (replies (areas m f) cs) m′ f′
+pub performed : {cs : List Call} {m f m′ f′ : List ℕ} {rs : List MxAnswer} → Made Exports cs m f rs m′ f′ → Made Performs cs m f (replies (areas m f) cs) m′ f′
 unfolding replies
 performed no-more = no-more
 performed (next p ps) = next (record { answers = refl; leaves = p .leaves }) (rw (p .leaves) at (performed ps))
@@ -76,11 +77,14 @@ format-accepted (absent t) e = refl
 format-accepted (shown s) e = refl
 format-accepted (refused n r) e = e
 
+pub made-heard : {cs : List Call} {m f m′ f′ : List ℕ} {rs : List MxAnswer} → Made Exports cs m f rs m′ f′ → heardOf heardFrom cs rs ≡ heardOf heard cs (replies (areas m f) cs)
+made-heard {cs = cs} {m = m} {f = f} ps = ap (heardOf heardFrom cs) (made-told ps) ∙ all-heard cs (areas m f)
+
+pub made-opened : {g : Geometry} {cs : List Call} {m f m′ f′ : List ℕ} {r : MxAnswer} {rs : List MxAnswer} → Made Exports (format g ∷ cs) m f (r ∷ rs) m′ f′ → isRefusal r ≡ false → isRefused (reply (areas m f) (format g)) ≡ false
+made-opened {g = g} {m = m} {f = f} (next p ps) opens = format-accepted (reply (areas m f) (format g)) (ap isRefusal (sym (p .answers)) ∙ opens)
+
 pub linked-calls-keep-demand3 : LinkedCallsKeepDemand3
 unfolding LinkedCallsKeepDemand3 CallsKeepDemand3 replies
-linked-calls-keep-demand3 m f m′ f′ h g cs r rs (next p ps) opens fits =
-    let told = made-told (next p ps) in
-    let opened = format-accepted (reply (areas m f) (format g)) (ap isRefusal (sym (p .answers)) ∙ opens) in
-    let kept = calls-keep-demand3 m f m′ f′ h g cs _ _ (performed (next p ps)) opened fits in
-    let hears = ap (remember h) (ap (heardOf heardFrom (format g ∷ cs)) told ∙ all-heard (format g ∷ cs) (areas m f)) in
-    (told, rw hears (kept .1))
+linked-calls-keep-demand3 m f m′ f′ h g cs r rs made opens fits =
+    let kept = calls-keep-demand3 m f m′ f′ h g cs _ _ (performed made) (made-opened made opens) fits in
+    (made-told made, rw (made-heard made) (kept .1))

@@ -1,2 +1,3 @@
 pub mod OldFault
 pub mod Histories
+pub mod Cards

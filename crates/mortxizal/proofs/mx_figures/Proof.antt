@@ -6,7 +6,7 @@ use Rattle.mortxizal.proofs.mx_figures.Statement.{statement}
 use Rattle.mortxizal.proofs.mx_figures.Tie as tie
 
 returns : tie.Need-returns
-returns c = c .of-figures .ensures ∙ ap exportedCard (c .before .figures .ensures)
+returns c = rw (c .before .before .numbers .ensures) at (c .of-figures .ensures ∙ ap exportedCard (c .before .figures .ensures))
 
 pub mx-figures-spec : {M : Type 1} → statement M
-mx-figures-spec = tie.close (tie.spec (λ c κs. search needs) (λ c κs. search needs) returns)
+mx-figures-spec = tie.close (tie.spec (λ c κs. search needs) (λ c κs. search needs) (λ c κs. search needs) returns)
