@@ -1,0 +1,121 @@
+//! Document 02, job 7: the figures of a card, and lists of calls that stay
+//! within them and reach them.
+
+mod common;
+
+use common::call::call_index;
+use common::carry::{reaches, stay_within, Maker, Reached};
+use common::{flash_need, memory_need, refused, Rng, G, LARGEST};
+use reference::Geometry;
+
+const MAKER: Maker = Maker {
+    call: call_index,
+    figures: |g, puts| {
+        let card = g.figures(puts).unwrap();
+        (card.flushes, card.first_lost)
+    },
+};
+
+#[test]
+fn the_session_geometry() {
+    for (puts, flushes) in [(0, 0), (1, 0), (2, 0), (3, 0), (4, 1), (6, 1), (7, 2)] {
+        let card = G.figures(puts).unwrap();
+        assert_eq!((card.memory, card.flash), (144, 128));
+        assert_eq!((card.flushes, card.first_lost), (flushes, 10), "{puts}");
+    }
+    let card = G.figures(u32::MAX).unwrap();
+    assert_eq!((card.flushes, card.first_lost), (1_431_655_764, 10));
+}
+
+#[test]
+fn the_largest_geometry() {
+    let card = LARGEST.figures(u32::MAX).unwrap();
+    assert_eq!((card.memory, card.flash), (138_416_160, 2_147_483_648));
+    assert_eq!((card.flushes, card.first_lost), (16_843_008, 8416));
+    for (puts, flushes) in [(0, 0), (255, 0), (256, 1), (510, 1), (511, 2)] {
+        let card = LARGEST.figures(puts).unwrap();
+        assert_eq!((card.flushes, card.first_lost), (flushes, 8416), "{puts}");
+    }
+}
+
+#[test]
+fn the_needs_are_those_of_format() {
+    let mut rng = Rng(7);
+    for _ in 0..1000 {
+        let g = rng.small_geometry();
+        let card = g.figures(rng.next() as u32).unwrap();
+        let (memory, flash) = (memory_need(g), flash_need(g));
+        assert_eq!((card.memory, card.flash), (memory as u64, flash as u64));
+        let (mut memory, flash) = (vec![0; memory], vec![0; flash]);
+        assert_eq!(reference::format(&mut memory, &flash, g), Ok(()));
+        let short = reference::format(&mut memory[1..], &flash, g);
+        assert_eq!(refused(short), (2, 0));
+        let short = reference::format(&mut memory, &flash[1..], g);
+        assert_eq!(refused(short), (3, 0));
+    }
+}
+
+#[test]
+fn geometries_outside_the_table() {
+    let outside = [
+        Geometry { parts: 9, ..G },
+        Geometry { page: 0, ..G },
+        Geometry { page: 8192, ..G },
+        Geometry { pages: 3, ..G },
+        Geometry { kept: 0, ..G },
+        Geometry { kept: 33, ..G },
+        Geometry { bits: 96, ..G },
+        Geometry { hashes: 9, ..G },
+        Geometry { list: 1025, ..G },
+        Geometry::new([u32::MAX; 7]),
+        Geometry::new([0; 7]),
+    ];
+    for g in outside {
+        for puts in [0, 1, u32::MAX] {
+            assert_eq!(refused(g.figures(puts)), (1, 0), "{g:?}");
+        }
+    }
+}
+
+#[test]
+fn random_lists_stay_within_the_figures() {
+    let mut reached = Reached::default();
+    for seed in 0..4000 {
+        let mut rng = Rng(seed);
+        let g = rng.small_geometry();
+        println!("seed {seed}, {g:?}");
+        stay_within(&mut rng, MAKER, g, &mut reached);
+    }
+    println!("{reached:?}");
+    assert!(reached.most_flushes > 1000 && reached.first_lost > 100);
+}
+
+#[test]
+fn random_lists_in_larger_geometries_stay_within_the_figures() {
+    let geometries = [
+        Geometry::new([0, 4096, 2, 3, 4096, 4, 100]),
+        Geometry::new([0, 1024, 1, 32, 1024, 2, 1024]),
+        Geometry::new([8, 64, 1, 32, 64, 8, 1]),
+        Geometry::new([3, 256, 64, 16, 512, 5, 40]),
+    ];
+    let mut reached = Reached::default();
+    for (seed, g) in (0..16).flat_map(|seed| geometries.map(|g| (seed, g))) {
+        println!("seed {seed}, {g:?}");
+        stay_within(&mut Rng(seed), MAKER, g, &mut reached);
+    }
+    println!("{reached:?}");
+}
+
+#[test]
+fn the_sequence_reaches_the_figures_in_every_page_size_and_number_of_batches() {
+    for (page, kept) in (0..7).flat_map(|shift| (1..=32).map(move |kept| (64 << shift, kept))) {
+        let g = Geometry::new([kept % 4, page, 1 << (kept % 7), kept, 64, 1 + kept % 8, 1]);
+        println!("{g:?}");
+        reaches(MAKER, g, (kept + 3) * (page / 16 - 1));
+    }
+}
+
+#[test]
+fn the_sequence_reaches_the_figures_when_its_keys_come_round() {
+    reaches(MAKER, G, (1 << 18) + 1000);
+}
