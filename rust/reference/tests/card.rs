@@ -4,7 +4,7 @@
 mod common;
 
 use common::call::call_index;
-use common::carry::{reaches, stay_within, Maker, Reached};
+use common::carry::{check_lists, check_long_lists, check_long_sequence, check_sequences, Maker};
 use common::{flash_need, memory_need, refused, Rng, G, LARGEST};
 use reference::Geometry;
 
@@ -79,43 +79,20 @@ fn geometries_outside_the_table() {
 
 #[test]
 fn random_lists_stay_within_the_figures() {
-    let mut reached = Reached::default();
-    for seed in 0..4000 {
-        let mut rng = Rng(seed);
-        let g = rng.small_geometry();
-        println!("seed {seed}, {g:?}");
-        stay_within(&mut rng, MAKER, g, &mut reached);
-    }
-    println!("{reached:?}");
-    assert!(reached.most_flushes > 1000 && reached.first_lost > 100);
+    check_lists(MAKER, 0);
 }
 
 #[test]
-fn random_lists_in_larger_geometries_stay_within_the_figures() {
-    let geometries = [
-        Geometry::new([0, 4096, 2, 3, 4096, 4, 100]),
-        Geometry::new([0, 1024, 1, 32, 1024, 2, 1024]),
-        Geometry::new([8, 64, 1, 32, 64, 8, 1]),
-        Geometry::new([3, 256, 64, 16, 512, 5, 40]),
-    ];
-    let mut reached = Reached::default();
-    for (seed, g) in (0..16).flat_map(|seed| geometries.map(|g| (seed, g))) {
-        println!("seed {seed}, {g:?}");
-        stay_within(&mut Rng(seed), MAKER, g, &mut reached);
-    }
-    println!("{reached:?}");
+fn long_random_lists_stay_within_the_figures() {
+    check_long_lists(MAKER, 0);
 }
 
 #[test]
-fn the_sequence_reaches_the_figures_in_every_page_size_and_number_of_batches() {
-    for (page, kept) in (0..7).flat_map(|shift| (1..=32).map(move |kept| (64 << shift, kept))) {
-        let g = Geometry::new([kept % 4, page, 1 << (kept % 7), kept, 64, 1 + kept % 8, 1]);
-        println!("{g:?}");
-        reaches(MAKER, g, (kept + 3) * (page / 16 - 1));
-    }
+fn the_sequence_reaches_the_figures() {
+    check_sequences(MAKER);
 }
 
 #[test]
 fn the_sequence_reaches_the_figures_when_its_keys_come_round() {
-    reaches(MAKER, G, (1 << 18) + 1000);
+    check_long_sequence(MAKER);
 }

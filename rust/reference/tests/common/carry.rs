@@ -6,7 +6,7 @@ use std::collections::HashMap;
 use reference::Geometry;
 
 use super::call::{Answer, Call};
-use super::{flash_need, memory_need, partition_bytes, word, Rng};
+use super::{flash_need, memory_need, partition_bytes, word, Rng, G};
 
 /// An index: its calls, and what it tells of a geometry and so many puts.
 #[derive(Clone, Copy)]
@@ -67,33 +67,33 @@ impl Carrying {
         heads.map(|head| u64::from(word(head, 0))).sum()
     }
 
-    /// Whether a get finds no value for the key. Another one than was put last
-    /// it never finds.
+    /// Whether the key is lost: put, not deleted since and not found. What a get
+    /// finds is the value that was put last, and never that of a deleted key.
     fn is_lost(&mut self, key: u64) -> bool {
+        let last = self.values.get(&key).copied();
         match self.call(Call::Get(key)) {
-            Answer::None(_) => true,
+            Answer::None(_) => last.is_some(),
             Answer::Found(value, ..) => {
-                assert_eq!(Some(&value), self.values.get(&key), "get of {key}");
+                assert_eq!(Some(value), last, "get of {key}");
                 false
             }
             other => panic!("get of {key}: {other:?}"),
         }
     }
 
-    /// How many keys are lost that were put and not deleted since.
-    fn lost(&mut self) -> usize {
-        let keys: Vec<u64> = self.values.keys().copied().collect();
+    /// How many of the keys are lost.
+    fn lost(&mut self, keys: impl IntoIterator<Item = u64>) -> usize {
         keys.into_iter().filter(|&key| self.is_lost(key)).count()
     }
 }
 
 /// How often random lists came to the figures.
 #[derive(Debug, Default)]
-pub struct Reached {
+struct Reached {
     /// Puts that flushed, after which there were as many flushes as there may be.
-    pub most_flushes: usize,
+    most_flushes: usize,
     /// Lists that lost a key with the first put that can lose one.
-    pub first_lost: usize,
+    first_lost: usize,
 }
 
 /// Keys of one page of one partition, or any. In the mixing bit 18 is the lowest
@@ -128,7 +128,7 @@ fn draw(rng: &mut Rng, g: Geometry, keys: &[u64], others: usize) -> Call {
 /// Makes a random list of calls on a fresh table: after each of them there are
 /// no more flushes than the figure says, and before the first lost put no key
 /// that was put and not deleted since is lost.
-pub fn stay_within(rng: &mut Rng, maker: Maker, g: Geometry, reached: &mut Reached) {
+fn stay_within(rng: &mut Rng, maker: Maker, g: Geometry, reached: &mut Reached) {
     let mut table = Carrying::new(maker, g);
     let first_lost = table.figures().1;
     let number = 2 + rng.below(8 * first_lost as usize);
@@ -142,19 +142,50 @@ pub fn stay_within(rng: &mut Rng, maker: Maker, g: Geometry, reached: &mut Reach
         let flushed = matches!(answer, Answer::Done(pages) if table.puts > before && pages > 0);
         reached.most_flushes += usize::from(flushed && flushes == most);
         let puts = u64::from(table.puts);
-        if puts < first_lost && (flushed || rng.one_in(8)) {
-            assert_eq!(table.lost(), 0, "after {puts} puts");
+        if puts < first_lost && (flushed || rng.one_in(1 + first_lost as usize / 10)) {
+            let lost = table.lost(keys.iter().copied());
+            assert_eq!(lost, 0, "after {puts} puts");
         }
         if flushed && puts == first_lost {
-            reached.first_lost += usize::from(table.lost() > 0);
+            let lost = table.lost(keys.iter().copied());
+            reached.first_lost += usize::from(lost > 0);
         }
+    }
+}
+
+/// Random lists of calls stay within the figures, and many come to them.
+pub fn check_lists(maker: Maker, first_seed: u64) {
+    let mut reached = Reached::default();
+    for seed in first_seed..first_seed + 4000 {
+        let mut rng = Rng(seed);
+        let g = rng.small_geometry();
+        println!("seed {seed}, {g:?}");
+        stay_within(&mut rng, maker, g, &mut reached);
+    }
+    println!("{reached:?}");
+    assert!(reached.most_flushes > 10_000 && reached.first_lost > 500);
+}
+
+/// The same in some larger geometries, where few lists come to a figure.
+pub fn check_long_lists(maker: Maker, first_seed: u64) {
+    let geometries = [
+        Geometry::new([0, 4096, 2, 3, 4096, 4, 100]),
+        Geometry::new([0, 1024, 1, 32, 1024, 2, 1024]),
+        Geometry::new([8, 64, 1, 32, 64, 8, 1]),
+        Geometry::new([3, 256, 64, 16, 512, 5, 40]),
+    ];
+    for seed in first_seed..first_seed + 64 {
+        let mut rng = Rng(seed);
+        let g = rng.pick(&geometries);
+        println!("seed {seed}, {g:?}");
+        stay_within(&mut rng, maker, g, &mut Reached::default());
     }
 }
 
 /// Makes so many puts of the sequence that reaches both figures, put i with the
 /// key i mod 2^18, i from 0: all are accepted, each leaves as many flushes as the
 /// figure says, and key 0 is found up to the first lost put, where it is lost.
-pub fn reaches(maker: Maker, g: Geometry, puts: u32) {
+fn reaches(maker: Maker, g: Geometry, puts: u32) {
     let mut table = Carrying::new(maker, g);
     let first_lost = table.figures().1;
     assert_eq!((table.flushes(), table.figures().0), (0, 0));
@@ -168,11 +199,26 @@ pub fn reaches(maker: Maker, g: Geometry, puts: u32) {
             assert_eq!(table.is_lost(0), n >= first_lost, "after {n} puts");
         }
         if n == first_lost - 1 {
-            assert_eq!(table.lost(), 0, "before put {first_lost}");
+            assert_eq!(table.lost(0..n), 0, "after {n} puts");
         }
     }
     assert!(
         u64::from(table.puts) >= first_lost,
         "{puts} puts are too few"
     );
+}
+
+/// The sequence reaches the figures in every page size with every number of batches.
+pub fn check_sequences(maker: Maker) {
+    for (shift, kept) in (0..7).flat_map(|shift| (1..=32).map(move |kept| (shift, kept))) {
+        let (parts, page, pages) = (kept % 4, 64 << shift, 1 << (kept % 7));
+        let g = Geometry::new([parts, page, pages, kept, 64, 1 + kept % 8, 1]);
+        println!("{g:?}");
+        reaches(maker, g, (kept + 3) * (page / 16 - 1));
+    }
+}
+
+/// It does also when its keys come round.
+pub fn check_long_sequence(maker: Maker) {
+    reaches(maker, G, (1 << 18) + 1000);
 }
