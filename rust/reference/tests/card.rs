@@ -38,6 +38,22 @@ fn the_largest_geometry() {
     }
 }
 
+/// The three cards of `include/mortxizal.h`, in a million puts.
+#[test]
+fn the_table_of_the_header() {
+    let middle = Geometry::new([4, 4096, 16, 16, 65536, 8, 256]);
+    let rows = [
+        (G, [144, 128, 333_333, 10]),
+        (middle, [3_211_552, 16_777_216, 3921, 4336]),
+        (LARGEST, [138_416_160, 2_147_483_648, 3921, 8416]),
+    ];
+    for (g, row) in rows {
+        let card = g.figures(1_000_000).unwrap();
+        let figures = [card.memory, card.flash, card.flushes, card.first_lost];
+        assert_eq!(figures, row, "{g:?}");
+    }
+}
+
 #[test]
 fn the_needs_are_those_of_format() {
     let mut rng = Rng(7);
