@@ -33,7 +33,7 @@ const MAKER: Maker = Maker {
 };
 
 #[test]
-fn the_smallest_and_the_largest_table() {
+fn the_session_geometry_and_the_largest() {
     for (puts, flushes) in [
         (0, 0),
         (1, 0),
