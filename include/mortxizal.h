@@ -3,10 +3,11 @@
  *
  * An index lives in two byte areas that the caller lends to every call: memory,
  * which holds the buffers, filters and lists of deleted keys, and flash, which
- * holds the batches. The library keeps nothing of its own, allocates nothing
- * and never fails but by a refusal in its answer. Link target/staticlib/
- * libmortxizal.a, which `rt staticlib mortxizal` proves and writes for x86-64
- * Linux; it needs the C library's memmove and memset alone.
+ * holds the batches. mx_figures alone is asked before there are any. The library
+ * keeps nothing of its own, allocates nothing and never fails but by a refusal in
+ * its answer. Link target/staticlib/libmortxizal.a, which `rt staticlib mortxizal`
+ * proves and writes for x86-64 Linux; it needs the C library's memmove and memset
+ * alone.
  *
  * Every call is proved, on areas of any length and content, to answer and to
  * leave exactly what documents 01 and 02 say. A refused call has changed no
@@ -36,7 +37,7 @@ extern "C" {
 #endif
 
 /*
- * The answer of every call. A field that the table leaves out is 0.
+ * The answer of every call on the areas. A field that the table leaves out is 0.
  *
  *   call                       status       number    reads  batch     value
  *   mx_format, mx_del, mx_drop MX_DONE
@@ -60,22 +61,33 @@ typedef struct {
     uint64_t value;  /* found: the value; view: where the page begins in that area; text: its bytes */
 } mx_answer;
 
-/* mx_answer's status */
+/* What mx_figures tells of a table that is yet to be. Refused, the four figures are 0. */
+typedef struct {
+    uint32_t status;     /* MX_DONE or MX_REFUSED */
+    uint32_t number;     /* done: 0; refused: MX_REFUSED_GEOMETRY */
+    uint64_t memory;     /* bytes that the table needs of memory */
+    uint64_t flash;      /* bytes that it needs of flash */
+    uint64_t flushes;    /* the most flushes that so many puts can cause */
+    uint64_t first_lost; /* the first put, counted from 1, at which an earlier key can be lost */
+} mx_card;
+
+/* the status of an mx_answer and of an mx_card */
 enum { MX_DONE = 0, MX_FOUND = 1, MX_NONE = 2, MX_REFUSED = 3 };
 
 /*
- * Refusals: mx_answer's number where the status is MX_REFUSED. Each is given
- * when its condition holds and no earlier one of its call does, and at no other
- * time. mx_format checks 1, 2, 3. The others check 2 (below 32 bytes), 11,
- * 2 (the need), 3, 4, 12 and then their own: mx_put 16, 13; mx_get 13 as it
- * reads; mx_del 14; mx_flush 15, 16, 13; mx_view 17, 13; mx_text 13, 22;
- * mx_drop 23, 13. Only mx_put checks 21, behind 3 and before 12. Where mx_put,
- * mx_del, mx_flush or mx_drop would end with a total that cannot be, 12 comes
- * last. Only 13 tells reads above 0, and not that of mx_text.
+ * Refusals: the number where the status is MX_REFUSED. Each is given when its
+ * condition holds and no earlier one of its call does, and at no other time.
+ * mx_figures checks 1 alone; `all` below are all calls but this one. mx_format
+ * checks 1, 2, 3. The others check 2 (below 32 bytes), 11, 2 (the need), 3, 4, 12
+ * and then their own: mx_put 16, 13; mx_get 13 as it reads; mx_del 14; mx_flush
+ * 15, 16, 13; mx_view 17, 13; mx_text 13, 22; mx_drop 23, 13. Only mx_put checks
+ * 21, behind 3 and before 12. Where mx_put, mx_del, mx_flush or mx_drop would end
+ * with a total that cannot be, 12 comes last. Only 13 tells reads above 0, and not
+ * that of mx_text.
  */
 enum {
     /* from the arguments */
-    MX_REFUSED_GEOMETRY = 1,     /* mx_format: a number outside the table of mx_format */
+    MX_REFUSED_GEOMETRY = 1,     /* mx_format, mx_figures: a number outside the table of mx_format */
     MX_REFUSED_SHORT_MEMORY = 2, /* all: memory is shorter than 32 bytes, or than the need */
     MX_REFUSED_SHORT_FLASH = 3,  /* all: flash is shorter than the need */
     MX_REFUSED_OUT_OF_RANGE = 4, /* mx_flush, mx_view, mx_count, mx_text, mx_drop: partition not below 2^s;
@@ -106,7 +118,9 @@ enum {
 
 /*
  * The bytes that a table of allowed numbers needs of each area: constants, fit
- * for the length of an array. The largest table needs 138416160 and 2147483648.
+ * for the length of an array. mx_figures tells the same when a program runs, and
+ * refuses numbers that are not allowed. The largest table needs 138416160 and
+ * 2147483648.
  *
  *   memory  32 + 2^s * (16 + 16 * list + kept * bits / 8 + pages * page)
  *   flash   2^s * kept * pages * page
@@ -259,6 +273,40 @@ mx_answer mx_text(const uint8_t *memory, size_t memory_len, const uint8_t *flash
  */
 mx_answer mx_drop(uint8_t *memory, size_t memory_len, const uint8_t *flash, size_t flash_len,
                   uint32_t partition);
+
+/*
+ * Tells what a table of these numbers will carry, before there is one: the bytes
+ * that it needs of each area, the most flushes that so many puts can cause, in
+ * all partitions together, and the first put at which an earlier key can be lost.
+ * Every flush writes `pages` pages. A key is lost where mx_get says MX_NONE of it
+ * though it was put and not deleted since. With E = page / 16 - 1:
+ *
+ *   flushes      (puts - 1) / E, rounded down, and 0 for no puts
+ *   first_lost   (kept + 1) * E + 1, whatever `puts` is
+ *
+ * Both are for the worst keys. It is proved of every list of calls that begins
+ * with an accepted mx_format, on two areas that nobody else writes from then on,
+ * and in which no other mx_format, no mx_flush and no mx_drop comes: as many puts
+ * as it has, refused ones with them, cause no more flushes, and no key is lost
+ * before put first_lost. And it is proved that one list reaches both, of puts of
+ * keys that share a page of a partition: put i, from 0, has key i mod 2^18 and
+ * value 1. Keys that spread over pages and partitions do better.
+ *
+ * So three cards can be compared before one is ordered. For a million puts:
+ *
+ *   card      s  page  pages  kept   bits  hashes  list     memory       flash  flushes  first_lost
+ *   small     0    64      1     2     64       3     1        144         128   333333          10
+ *   middle    4  4096     16    16  65536       8   256    3211552    16777216     3921        4336
+ *   largest   8  4096     64    32  65536       8  1024  138416160  2147483648     3921        8416
+ *
+ * Whatever the keys are, a million puts write at most 3921 * 16 pages to the
+ * middle card, and after 4335 puts it still has every key that was put on it and
+ * not deleted. rust/mortxizal/examples/card.c prints such a table.
+ *
+ * Answers MX_DONE with the figures, or refuses with 1 as mx_format does.
+ */
+mx_card mx_figures(uint32_t s, uint32_t page, uint32_t pages, uint32_t kept, uint32_t bits,
+                   uint32_t hashes, uint32_t list, uint32_t puts);
 
 #ifdef __cplusplus
 }

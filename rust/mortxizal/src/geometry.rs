@@ -1,7 +1,7 @@
-//! The seven numbers of a table, and the lengths of its areas.
+//! The seven numbers of a table, and what the proved library tells of them.
 
 use crate::raw;
-use crate::Refused;
+use crate::{Card, Refused};
 
 /// The seven numbers that a table is formatted with.
 ///
@@ -49,8 +49,28 @@ impl Default for Geometry {
 }
 
 impl Geometry {
-    /// Whether all seven numbers are in their ranges. The proved library is
-    /// asked: on areas of no bytes its format tells the one case from the other.
+    /// What a table of this geometry carries: the bytes of its areas, the most
+    /// flushes that so many puts can cause, and the first put at which an earlier
+    /// key can be lost. It is told without any area, before a card is bought.
+    ///
+    /// [`Refused::Geometry`] if the geometry is not allowed.
+    ///
+    /// ```
+    /// use mortxizal::{Geometry, Refused};
+    ///
+    /// let card = Geometry::default().figures(1_000_000)?;
+    /// assert_eq!((card.memory, card.flash), (3_211_552, 16_777_216));
+    /// assert_eq!((card.flushes, card.first_lost), (3_921, 4_336));
+    ///
+    /// let geometry = Geometry { kept: 33, ..Geometry::default() };
+    /// assert_eq!(geometry.figures(1_000_000), Err(Refused::Geometry));
+    /// # Ok::<(), mortxizal::Refused>(())
+    /// ```
+    pub fn figures(&self, puts: u32) -> Result<Card, Refused> {
+        Card::of(raw::figures(*self, puts))
+    }
+
+    /// Whether all seven numbers are in their ranges.
     ///
     /// ```
     /// use mortxizal::Geometry;
@@ -59,36 +79,18 @@ impl Geometry {
     /// assert!(!Geometry { pages: 3, ..Geometry::default() }.is_allowed());
     /// ```
     pub fn is_allowed(&self) -> bool {
-        raw::format(&mut [], &[], *self).number != Refused::Geometry.number()
+        self.figures(0).is_ok()
     }
 
     /// The bytes that the table needs of memory, or [`Refused::Geometry`] if it
     /// is not allowed.
     pub fn memory_need(&self) -> Result<usize, Refused> {
-        let [_, page, pages, kept, bits, list] = self.sizes()?;
-        let partition = 16 + 16 * list + kept * bits / 8 + pages * page;
-        Ok(32 + (partition << self.parts))
+        Ok(self.figures(0)?.memory)
     }
 
     /// The bytes that the table needs of flash, or [`Refused::Geometry`] if it
     /// is not allowed.
     pub fn flash_need(&self) -> Result<usize, Refused> {
-        let [partitions, page, pages, kept, ..] = self.sizes()?;
-        Ok(partitions * kept * pages * page)
-    }
-
-    /// S, P, Q, K, M and D. None of the sums above can overflow with them.
-    fn sizes(&self) -> Result<[usize; 6], Refused> {
-        if !self.is_allowed() {
-            return Err(Refused::Geometry);
-        }
-        Ok([
-            1 << self.parts,
-            self.page as usize,
-            self.pages as usize,
-            self.kept as usize,
-            self.bits as usize,
-            self.list as usize,
-        ])
+        Ok(self.figures(0)?.flash)
     }
 }

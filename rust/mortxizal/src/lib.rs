@@ -30,12 +30,14 @@
 #![deny(missing_docs)]
 #![deny(unsafe_code)]
 
+mod card;
 mod geometry;
 mod index;
 #[allow(unsafe_code)]
 pub mod raw;
 mod refused;
 
+pub use card::Card;
 pub use geometry::Geometry;
 pub use index::{Index, Lookup, Place};
 pub use refused::Refused;

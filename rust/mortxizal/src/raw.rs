@@ -1,4 +1,5 @@
-//! The calls as the C interface gives them: one struct for every answer.
+//! The calls as the C interface gives them: one struct for every answer on the
+//! areas, and one for the figures of a geometry.
 //!
 //! [`Index`](crate::Index) is the convenient way to the same calls. These
 //! functions suit a caller that holds the areas in some other way, for example
@@ -27,7 +28,26 @@ pub struct Answer {
     pub value: u64,
 }
 
-/// The status of an accepted format, put, del, flush, view, count, text or drop.
+/// The figures of a geometry, as `mx_card` of `include/mortxizal.h`.
+#[derive(Clone, Copy, Debug, PartialEq, Eq)]
+#[repr(C)]
+pub struct Card {
+    /// [`DONE`] or [`REFUSED`].
+    pub status: u32,
+    /// Done: 0. Refused: 1, and the figures are 0.
+    pub number: u32,
+    /// Bytes that the table needs of memory.
+    pub memory: u64,
+    /// Bytes that the table needs of flash.
+    pub flash: u64,
+    /// The most flushes that so many puts can cause on a fresh table.
+    pub flushes: u64,
+    /// The first put at which an earlier key can be lost.
+    pub first_lost: u64,
+}
+
+/// The status of an accepted format, put, del, flush, view, count, text or drop,
+/// and of figures that are told.
 pub const DONE: u32 = 0;
 /// The status of a get that found the key.
 pub const FOUND: u32 = 1;
@@ -37,7 +57,7 @@ pub const NONE: u32 = 2;
 pub const REFUSED: u32 = 3;
 
 mod c {
-    use super::Answer;
+    use super::{Answer, Card};
 
     extern "C" {
         pub fn mx_format(
@@ -114,6 +134,16 @@ mod c {
             flash_len: usize,
             partition: u32,
         ) -> Answer;
+        pub fn mx_figures(
+            s: u32,
+            page: u32,
+            pages: u32,
+            kept: u32,
+            bits: u32,
+            hashes: u32,
+            list: u32,
+            puts: u32,
+        ) -> Card;
     }
 }
 
@@ -200,4 +230,22 @@ pub fn drop_oldest(memory: &mut [u8], flash: &[u8], partition: u32) -> Answer {
     let (m, f) = (memory.as_mut_ptr(), flash.as_ptr());
     // SAFETY: the pointers and lengths are those of two slices.
     unsafe { c::mx_drop(m, memory.len(), f, flash.len(), partition) }
+}
+
+/// Tells what a table of the geometry carries, with so many puts.
+#[inline]
+pub fn figures(geometry: Geometry, puts: u32) -> Card {
+    // SAFETY: all arguments are numbers, and any are allowed.
+    unsafe {
+        c::mx_figures(
+            geometry.parts,
+            geometry.page,
+            geometry.pages,
+            geometry.kept,
+            geometry.bits,
+            geometry.hashes,
+            geometry.list,
+            puts,
+        )
+    }
 }

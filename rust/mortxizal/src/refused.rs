@@ -18,7 +18,8 @@ use crate::raw;
 /// ```
 #[derive(Clone, Copy, Debug, PartialEq, Eq, Hash)]
 pub enum Refused {
-    /// 1: a number of the geometry is outside its range. Only format gives it.
+    /// 1: a number of the geometry is outside its range (format, and what is asked
+    /// of a [`Geometry`](crate::Geometry) alone: figures and needs).
     Geometry,
     /// 2: memory is shorter than 32 bytes, or than the table needs.
     ShortMemory,
@@ -28,7 +29,7 @@ pub enum Refused {
     /// (view).
     OutOfRange,
     /// 11: memory does not open with an allowed geometry: it was never
-    /// formatted, or it is damaged. Every call but format gives it.
+    /// formatted, or it is damaged. Every call on the areas but format gives it.
     Opening,
     /// 12: the partition lists more keys than it has places for, a buffer page
     /// that the call reads counts more entries than fit (a text reads them all),

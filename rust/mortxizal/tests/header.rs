@@ -41,20 +41,34 @@ fn run(program: &Path) -> String {
     String::from_utf8(output.stdout).unwrap()
 }
 
-fn expected() -> String {
-    std::fs::read_to_string(Path::new(HERE).join("examples/first.out")).unwrap()
+/// What an example should write, in whichever language.
+fn expected(example: &str) -> String {
+    let file = format!("examples/{example}.out");
+    std::fs::read_to_string(Path::new(HERE).join(file)).unwrap()
 }
 
 #[test]
 fn first_program_in_c() {
     let program = compile(Language::C, "examples/first.c", "first_c");
-    assert_eq!(run(&program), expected());
+    assert_eq!(run(&program), expected("first"));
 }
 
 #[test]
 fn first_program_in_cpp() {
     let program = compile(Language::Cpp, "examples/first.c", "first_cpp");
-    assert_eq!(run(&program), expected());
+    assert_eq!(run(&program), expected("first"));
+}
+
+#[test]
+fn cards_in_c() {
+    let program = compile(Language::C, "examples/card.c", "card_c");
+    assert_eq!(run(&program), expected("card"));
+}
+
+#[test]
+fn cards_in_cpp() {
+    let program = compile(Language::Cpp, "examples/card.c", "card_cpp");
+    assert_eq!(run(&program), expected("card"));
 }
 
 #[test]
@@ -70,5 +84,15 @@ mod first;
 fn first_program_in_rust() {
     let mut output = Vec::new();
     first::run(&mut output).unwrap();
-    assert_eq!(String::from_utf8(output).unwrap(), expected());
+    assert_eq!(String::from_utf8(output).unwrap(), expected("first"));
+}
+
+#[path = "../examples/card.rs"]
+mod card;
+
+#[test]
+fn cards_in_rust() {
+    let mut output = Vec::new();
+    card::run(&mut output).unwrap();
+    assert_eq!(String::from_utf8(output).unwrap(), expected("card"));
 }

@@ -2,7 +2,7 @@
 
 mod common;
 
-use common::{found, none, refused, Table, G};
+use common::{found, none, refused, Table, G, LARGEST};
 use reference::key::{mix, Bits};
 use reference::{format, Geometry, Layout};
 
@@ -21,7 +21,7 @@ fn case_1_the_needs_of_the_session_geometry() {
 
 #[test]
 fn case_2_the_needs_of_the_largest_geometry() {
-    let largest = layout(Geometry::new([8, 4096, 64, 32, 65536, 8, 1024]));
+    let largest = layout(LARGEST);
     assert_eq!(largest.memory_need(), 138_416_160);
     assert_eq!(largest.flash_need(), 2_147_483_648);
 }

@@ -1,14 +1,17 @@
 //! The proved library against the independent Rust index, on random sequences
 //! of calls: every answer in all its fields, and every byte of both areas and of
-//! a text area after every call.
+//! a text area after every call; and the figures of a geometry, in all of theirs.
 //!
-//! `MX_SEED` sets the first seed and `MX_CALLS` the number of calls, of all the
-//! tests here together. A failure prints the seed of its sequence.
+//! `MX_SEED` sets the first seed and `MX_CALLS` the number of calls on areas, of
+//! all the tests here together. A failure prints the seed of its sequence.
 
 #[path = "../../../reference/tests/common/mod.rs"]
 mod common;
 mod damage;
 mod draw;
+#[path = "../engine/mod.rs"]
+mod engine;
+mod figures;
 mod pair;
 
 use std::env;

@@ -1,11 +1,12 @@
 //! The same two areas twice: for the proved library and for the Rust index.
 
 use mortxizal::raw;
-use mortxizal::{Geometry, Index, Lookup, Place, Refused};
+use mortxizal::{Index, Lookup, Place, Refused};
 
 use crate::common::call::{call_index, digest, index_text, Answer, Call, BLANK};
 use crate::common::tally::Tally;
 use crate::common::{Rng, Table};
+use crate::engine::{call_raw, geometry};
 
 const GUARD: u8 = 0xe7;
 const GUARDS: usize = 16;
@@ -141,32 +142,6 @@ fn told(answer: Answer) -> raw::Answer {
         reads,
         batch,
         value,
-    }
-}
-
-fn geometry(g: reference::Geometry) -> Geometry {
-    Geometry {
-        parts: g.parts,
-        page: g.page,
-        pages: g.pages,
-        kept: g.kept,
-        bits: g.bits,
-        hashes: g.hashes,
-        list: g.list,
-    }
-}
-
-fn call_raw(call: Call, memory: &mut [u8], flash: &mut [u8]) -> raw::Answer {
-    match call {
-        Call::Format(g) => raw::format(memory, flash, geometry(g)),
-        Call::Put(key, value) => raw::put(memory, flash, key, value),
-        Call::Get(key) => raw::get(memory, flash, key),
-        Call::Del(key) => raw::del(memory, flash, key),
-        Call::Flush(partition) => raw::flush(memory, flash, partition),
-        Call::View(partition, page, flush) => raw::view(memory, flash, partition, page, flush),
-        Call::Count(partition) => raw::count(memory, flash, partition),
-        Call::Drop(partition) => raw::drop_oldest(memory, flash, partition),
-        Call::Text(..) => unreachable!("a text has its own check"),
     }
 }
 

@@ -3,6 +3,7 @@
 #![allow(dead_code)]
 
 pub mod call;
+pub mod carry;
 pub mod oracle;
 pub mod plain;
 pub mod tally;
@@ -11,6 +12,9 @@ use reference::{Geometry, Lookup, Place, Refusal};
 
 /// The geometry of the worked session.
 pub const G: Geometry = Geometry::new([0, 64, 1, 2, 64, 3, 1]);
+
+/// The largest geometry that is allowed.
+pub const LARGEST: Geometry = Geometry::new([8, 4096, 64, 32, 65536, 8, 1024]);
 
 /// A geometry of two partitions, two pages and three batches.
 pub const WIDE: Geometry = Geometry::new([1, 64, 2, 3, 64, 2, 3]);
