@@ -1,4 +1,0 @@
-use Rattle.carrying.specs.Carrying.{CardCarries}
-
-pub card-carries : CardCarries
-card-carries = ?
