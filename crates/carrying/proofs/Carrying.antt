@@ -1,9 +1,8 @@
--- What a card carries: an accepted format begins both the pace that no calls exceed and the list of puts that reaches it.
+-- What a card carries (02, job 7): an accepted format begins the pace that no calls exceed, and the list of puts that reaches it.
 use Prim.Native.Nat.{ℕ}
 use mathlib.Core.Bool.{false}
 use mathlib.Core.Path.{_≡_, refl, sym}
-use mathlib.Core.List.{_∷_}
-use mathlib.Core.Option.{Option, none}
+use mathlib.Core.Option.{none}
 use native.Mathlib.Omega.{arith}
 use native.Mathlib.Nat.{mul-zero}
 use Rattle.model.specs.declared.Geometry.{Geometry}
@@ -17,32 +16,31 @@ use Rattle.history.specs.History.{blank, turnedDown, heard, events}
 use Rattle.history.specs.Claim.{isRefused}
 use Rattle.history.proofs.FromFormat.{not-refused, done-leaves}
 use Rattle.history.proofs.InStep.{by-table, format-kept}
-use Rattle.carrying.specs.Carrying.{putsIn, given, lastPut, onePageFrom, CardCarries}
+use Rattle.carrying.specs.Carrying.{putsIn, given, lastPut, CardCarries}
 use Rattle.carrying.proofs.Pacing as pacing
 use Rattle.carrying.proofs.Filling.{filled-none}
 use Rattle.carrying.proofs.Reaching as reaching
 use Rattle.carrying.proofs.Reaching.{At}
 
-module _ (a : Areas) (g : Geometry) (accepted : isRefused (reply a (format g)) ≡ false) where
-  start : At g 0 (after a (format g)) (given (λ k. none) (heard (format g) (reply a (format g)))) × (heard (format g) (reply a (format g)) ≡ turnedDown → ⊥)
-  start =
-      let passed = not-refused a (format g) accepted in
-      done-leaves a (format g) (λ a′ e. At g 0 a′ (given (λ k. none) e) × (e ≡ turnedDown → ⊥)) 0 (result-format a g) passed (
-        record {
-          paced = record {
-            history = blank g;
-            own = refl;
-            inStep = by-table (format-kept a g passed);
-            paid = rw (sum-zero (partitions g)) (sym (mul-zero (g .pages)));
-            puts = omega arith;
-            few = rw (sum-zero (partitions g)) (omega arith);
-            kept = λ l k hk. refl;
-          };
-          filled = filled-none (capacity g);
-          last = λ l. absurd (omega arith);
-        },
-        λ e. let z : _≡_ {A = ℕ} 0 1 = cc in omega arith,
-      )
+start : (a : Areas) (g : Geometry) → isRefused (reply a (format g)) ≡ false
+    → At g 0 (after a (format g)) (given (λ k. none) (heard (format g) (reply a (format g)))) × (heard (format g) (reply a (format g)) ≡ turnedDown → ⊥)
+start a g accepted =
+    let passed = not-refused a (format g) accepted in
+    done-leaves a (format g) (λ a′ e. At g 0 a′ (given (λ k. none) e) × (e ≡ turnedDown → ⊥)) 0 (result-format a g) passed (
+      record {
+        paced = record {
+          history = blank g;
+          inStep = by-table (format-kept a g passed);
+          puts = omega arith;
+          paid = rw (sum-zero (partitions g)) (sym (mul-zero (g .pages)));
+          few = rw (sum-zero (partitions g)) (omega arith);
+          kept = λ l k hk. refl;
+        };
+        filled = filled-none (capacity g);
+        last = λ l. absurd (omega arith);
+      },
+      λ e. let z : _≡_ {A = ℕ} 0 1 = cc in omega arith,
+    )
 
 pub card-carries : CardCarries
 unfolding CardCarries run events lastPut firstLost
@@ -56,7 +54,7 @@ card-carries a g accepted cs =
           (let end = reaching.along n below n 0 (omega arith) _ _ (begun .0) in
           record {
             taken = (begun .1, end .1);
-            flushes = reaching.most-flushes n _ _ (end .0);
-            lost = λ many. record { last = end .0 .last (omega arith); gone = reaching.first-lost n _ _ (end .0) many };
+            flushes = reaching.most-flushes (end .0);
+            lost = λ many. record { last = end .0 .last (omega arith); gone = reaching.first-lost (end .0) many };
           });
     }

@@ -1,6 +1,6 @@
--- A buffer page that takes one new key after the other, and is emptied when it is full: it holds the latest of them, and what is known of key 0 is as old as the flushes done.
-use Prim.Native.Nat.{ℕ, zero, suc, _+_, _*_, _%_, _^_, _≤_, _<_}
-use mathlib.Core.Bool.{Bool, true, false, cond}
+-- A buffer page that takes new keys one after the other and is flushed when it is full holds the latest of them, and key 0 has the age of the flushes done.
+use Prim.Native.Nat.{ℕ, suc, _+_, _*_, _%_, _^_, _≤_, _<_}
+use mathlib.Core.Bool.{cond}
 use mathlib.Core.Path.{_≡_, refl, _∙_}
 use mathlib.Core.List.{List, []}
 use mathlib.Core.Option.{Option, none, some}
@@ -11,8 +11,9 @@ use lib.ListN.{length}
 use Rattle.model.proofs.Tests.{numbers, either}
 use Rattle.model.proofs.Tables.{Entry, find, store, length-store, find-store-other}
 use Rattle.history.specs.History.{Known, older}
+use Rattle.history.proofs.Told.{Told, listed, absent, present}
 
--- a known key of at least this age
+-- not known, or of at least this age
 abbrev pub Aged : ℕ → Option Known → Type 0
 Aged m none = Unit {0}
 Aged m (some w) = m ≤ w .age
@@ -22,7 +23,14 @@ unfolding older
 aged-more K m none old = tt
 aged-more K m (some w) old = either (ltb K (w .age + 1)) (λ e. simp e tt) (λ e. simp e (omega arith))
 
--- After n puts there were F flushes, the page holds the entries l, and o is known of key 0. The page does not hold the key of a later put that is less than 2^18 puts away from the first that it holds.
+-- no place is that old
+pub too-old : {live F : ℕ} {m : Option ℕ} {f : ℕ → Option ℕ} {w : Option Known} → Told live F m f w → (age : ℕ) → live < age → Aged age w → w ≡ none
+too-old (listed silent) age gone old = refl
+too-old (absent silent) age gone old = refl
+too-old (present here fits silent) age gone old = absurd (omega arith)
+
+-- After n puts and F flushes the page holds the entries l, and o is known of key 0, which comes again with put 2^18.
+-- Of the puts to come, the page lacks the key of each that is less than 2^18 puts behind the first that it holds.
 pub record Filled (E n F : ℕ) (l : List Entry) (o : Option Known) : Type 0 where
   pub puts : F * E + length l ≡ n
   pub later : (i : ℕ) → n ≤ i → i + length l < n + 2 ^ 18 → find (i % 2 ^ 18) l ≡ none
@@ -39,21 +47,22 @@ module _ {E n F : ℕ} {l : List Entry} {o : Option Known} (at : Filled E n F l 
   pub filled-flush : (K : ℕ) → length l ≡ E → Filled E n (suc F) [] (older K o)
   filled-flush K full = record { puts = omega (arith, at .puts); later = λ i l h. nothing-found (i % 2 ^ 18); first = λ h. aged-more K F o (at .first h) }
 
-  abbrev pub key : ℕ
-  key = n % 2 ^ 18
+  module _ (few : length l < 2 ^ 18) where
+    abbrev key : ℕ
+    key = n % 2 ^ 18
 
-  pub key-new : length l < 2 ^ 18 → find key l ≡ none
-  key-new few = at .later n (omega arith) (omega arith)
+    pub key-new : find key l ≡ none
+    key-new = at .later n (omega arith) (omega arith)
 
-  pub filled-put : 0 < E → length l < 2 ^ 18 → Filled E (suc n) F (store key 1 l) (cond (eqb 0 key) (some (record { value = 1; age = 0 })) o)
-  filled-put some-room few =
-      let long : length (store key 1 l) ≡ suc (length l) = rw (length-store key 1 l, key-new few) in
-      record {
-        puts = rw long (omega (arith, at .puts));
-        later = λ i l′ h.
-            let near : i + suc (length l) < suc n + 2 ^ 18 = rw long at h in
-            find-store-other (i % 2 ^ 18) key (λ same. omega arith) 1 l ∙ at .later i (omega arith) (omega arith);
-        first = λ h. either (eqb 0 key)
-            (λ e. simp e (let none-yet : F ≡ 0 = omega (numbers, at .puts, mul-le-mul-left F some-room) in omega arith))
-            (λ e. simp e (at .first (omega arith)));
-      }
+    pub filled-put : 0 < E → Filled E (suc n) F (store key 1 l) (cond (eqb 0 key) (some (record { value = 1; age = 0 })) o)
+    filled-put some-room =
+        let long : length (store key 1 l) ≡ suc (length l) = rw (length-store key 1 l, key-new) in
+        record {
+          puts = rw long (omega (arith, at .puts));
+          later = λ i after near.
+              let near : i + suc (length l) < suc n + 2 ^ 18 = rw long at near in
+              find-store-other (i % 2 ^ 18) key (λ same. omega arith) 1 l ∙ at .later i (omega arith) (omega arith);
+          first = λ h. either (eqb 0 key)
+              (λ e. simp e (omega (numbers, at .puts, mul-le-mul-left F some-room)))
+              (λ e. simp e (at .first (omega arith)));
+        }
