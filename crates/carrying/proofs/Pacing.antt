@@ -79,7 +79,7 @@ new-held k [] (present here fits silent) e = let z : _≡_ {A = ℕ} 0 1 = cc in
 new-held k (x ∷ l) told e = omega arith
 
 -- ---- the pace
--- a history whose geometry is g, and stays it
+-- this history with the geometry g, which no call between the puts changes
 abbrev pub under : Geometry → History → History
 under g h = record { geometry = g; keys = h .keys; live = h .live; puts = h .puts; putPages = h .putPages }
 
