@@ -1,0 +1,5 @@
+pub mod SmallKeys
+pub mod Pacing
+pub mod Filling
+pub mod Reaching
+pub mod Carrying
