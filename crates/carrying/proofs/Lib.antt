@@ -1,4 +1,3 @@
-pub mod SmallKeys
 pub mod Pacing
 pub mod Filling
 pub mod Reaching

@@ -92,7 +92,7 @@ pub record Paced (g : Geometry) (n : ℕ) (a : Areas) (d : ℕ → Option ℕ) :
   pub few : flushesIn g (inStep .table) * capacity g ≤ n - 1
   pub kept : flushesIn g (inStep .table) ≤ g .kept → (k : ℕ) → k < 2 ^ 64 → valueOf (history .keys k) ≡ d k
 
--- Q for the entry of the latest put is not yet spent.
+-- Of what puts have brought in, Q each, that of the latest is not yet spent: its entry is in the buffer.
 pub unspent : (a : Areas) (h : History) (inv : InStep a h) (k v : ℕ) → k < 2 ^ 64 → h .keys k ≡ some (record { value = v; age = 0 })
     → h .putPages ≡ h .geometry .pages * flushesIn (h .geometry) (inv .table) → flushesIn (h .geometry) (inv .table) * capacity (h .geometry) < h .puts
 unspent a h inv k v hk known paid =

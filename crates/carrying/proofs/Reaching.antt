@@ -4,7 +4,7 @@ use mathlib.Core.Bool.{Bool, true, false, and-false}
 use mathlib.Core.Path.{_≡_, refl, sym, _∙_, ap}
 use mathlib.Core.Option.{Option, none, some}
 use native.Mathlib.Omega.{arith}
-use native.Mathlib.Nat.{mod-lt, mul-le-mul, mul-le-mul-left, mul-le-mul-right, lt-of-mul-lt-mul-right, div-eq-of-lt-le, add-zero}
+use native.Mathlib.Nat.{mod-lt, mul-le-mul-left, mul-le-mul-right, lt-of-mul-lt-mul-right, div-eq-of-lt-le, add-zero}
 use lib.Dec.{eqb}
 use lib.ListN.{length}
 use borrow.Author.Tests.{ne-eqb, eqb-true}
@@ -13,12 +13,13 @@ use Rattle.model.specs.Geometry.{capacity, partitions}
 use Rattle.model.specs.Card.{mostFlushes, firstLost}
 use Rattle.model.specs.Keys.{partitionOf}
 use Rattle.model.specs.Refusals.{lastFlush}
-use Rattle.model.specs.Put.{noPosition}
 use Rattle.model.specs.Answers.{Areas}
 use Rattle.model.specs.Calls.{put, get, checks, reply, effect, after, run}
 use Rattle.model.proofs.Tests.{numbers, either}
-use Rattle.model.proofs.Sizes.{Sizes, sizes}
+use Rattle.model.proofs.Sizes.{Sizes, sizes, capacity-max, lost-max}
+use Rattle.model.proofs.SmallKeys.{small-page, small-partition}
 use Rattle.model.proofs.Sums.{sum-at}
+use Rattle.model.proofs.KeyedChecks.{a-position}
 use Rattle.model.proofs.Partitions.{modify}
 use Rattle.history.specs.History.{putting, turnedDown, heard, events}
 use Rattle.history.specs.Claim.{said, valueOf}
@@ -29,7 +30,6 @@ use Rattle.history.proofs.InStep.{InStep}
 use Rattle.history.proofs.Demand.{says}
 use Rattle.history.proofs.Keyed.{put-result}
 use Rattle.carrying.specs.Carrying.{flushesDone, given, lastPut, onePageFrom, NoneRefused}
-use Rattle.carrying.proofs.SmallKeys.{page-zero, partition-zero}
 use Rattle.carrying.proofs.Pacing.{under, Paced, done-flushes, put-paced}
 use Rattle.carrying.proofs.Filling.{too-old, Filled, filled-flush, key-new, filled-put}
 
@@ -59,10 +59,9 @@ module _ {g : Geometry} {n : ℕ} {a : Areas} {d : ℕ → Option ℕ} (at : At 
   pub first-lost : n ≡ firstLost g → said (reply a (get 0)) ≡ some none
   unfolding firstLost
   first-lost e =
-      let most = mul-le-mul {n₁ = g .kept + 1} {m₁ = capacity g} {n₂ = 33} {m₂ = 255} (omega (arith, bounds .kept-max)) (omega (arith, bounds .page-is, bounds .page-max)) in
       let often : g .kept < s .flushes = lt-of-mul-lt-mul-right (capacity g) (omega (arith, e, at .filled .puts, inv .good .core .parts 0 .fits 0)) in
       says a _ inv 0 (omega arith)
-      ∙ ap (λ w. some (valueOf w)) (too-old (inv .good .core .keys 0) (s .flushes) (omega (arith, often, inv .good .core .parts (partitionOf g 0) .liveKept)) (at .filled .first (omega (arith, e, most))))
+      ∙ ap (λ w. some (valueOf w)) (too-old (inv .good .core .keys 0) (s .flushes) (omega (arith, often, inv .good .core .parts (partitionOf g 0) .liveKept)) (at .filled .first (omega (arith, e, lost-max g (inv .shows .ok)))))
 
   -- ---- the next put
   abbrev key : ℕ
@@ -78,35 +77,34 @@ module _ {g : Geometry} {n : ℕ} {a : Areas} {d : ℕ → Option ℕ} (at : At 
   wide = omega (arith, small)
 
   here : (k : ℕ) → k < 2 ^ 18 → partitionOf g k ≡ 0
-  here k l = partition-zero g k l (inv .shows .ok)
+  here k l = small-partition g k l (inv .shows .ok)
 
   short : length (s .buffer 0) < 2 ^ 18
-  short = omega (arith, inv .good .core .parts 0 .fits 0, bounds .page-is, bounds .page-max)
+  short = omega (arith, inv .good .core .parts 0 .fits 0, capacity-max g (inv .shows .ok))
 
   is-due : due g key (inv .table (partitionOf g key)) ≡ full
   unfolding due
-  is-due = rw (here key small, page-zero g key small, key-new (at .filled) short)
+  is-due = rw (here key small, small-page g key small, key-new (at .filled) short)
 
   put-last : given d (putting key 1 0) 0 ≡ some 1
   put-last = either (eqb 0 key) (λ e. simp e) (λ e. simp (e, at .last (omega numbers)))
 
   module _ (more : suc n < 2 ^ 32) where
     passes : checks a (put key 1) ≡ none
-    unfolding noPosition
     passes =
         let left : inv .table (partitionOf g key) .flushes ≡ lastFlush → ⊥ = rw (here key small) (λ e. omega (arith, at .filled .puts, mul-le-mul-left (s .flushes) (bounds .capacity-min))) in
-        put-checks inv key wide 1 ∙ rw (ne-eqb _ lastFlush left, and-false) refl
+        put-checks inv key wide 1 ∙ rw (a-position 1 (omega arith), ne-eqb _ lastFlush left, and-false) refl
 
     put-at : (b : Bool) → full ≡ b → At g (suc n) (effect a (put key 1)) (given d (putting key 1 0))
     unfolding modify stored flushed
     put-at false is = record {
       paced = put-paced (at .paced) key wide 1 (omega arith) passes false (is-due ∙ is);
-      filled = rw (here key small, page-zero g key small) (filled-put (at .filled) short (inv .good .fine .someEntry));
+      filled = rw (here key small, small-page g key small) (filled-put (at .filled) short (inv .good .fine .someEntry));
       last = λ l. put-last;
     }
     put-at true is = record {
       paced = put-paced (at .paced) key wide 1 (omega arith) passes true (is-due ∙ is);
-      filled = rw (here key small, page-zero g key small, here 0 (omega arith)) (filled-put (filled-flush (at .filled) (g .kept) (eqb-true _ _ is)) (omega arith) (inv .good .fine .someEntry));
+      filled = rw (here key small, small-page g key small, here 0 (omega arith)) (filled-put (filled-flush (at .filled) (g .kept) (eqb-true _ _ is)) (omega arith) (inv .good .fine .someEntry));
       last = λ l. put-last;
     }
 

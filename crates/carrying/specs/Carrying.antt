@@ -47,7 +47,7 @@ unfoldable pub putsIn : List Call → ℕ
 putsIn [] = 0
 putsIn (c ∷ cs) = isPut c + putsIn cs
 
--- the flushes done since the format, in all partitions together
+-- the flushes done, in all partitions together
 unfoldable pub flushesDone : Areas → ℕ
 flushesDone a = sum (partitions (geometryIn a)) (λ t. flushesOf (partitionIn a t))
 
@@ -69,7 +69,7 @@ lastPut d (e ∷ es) = lastPut (given d e) es
 abbrev pub putSince : List Event → ℕ → Option ℕ
 putSince es = lastPut (λ k. none) es
 
--- With no more puts than these, whatever stands between them.
+-- No more flushes than so many puts can cause; and with fewer puts than can lose a key, a get of every key says what was put last.
 pub record Within (g : Geometry) (cs : List Call) (b : Areas) (es : List Event) : Type 0 where
   pub flushes : flushesDone b ≤ mostFlushes g (putsIn cs)
   pub kept : putsIn cs < firstLost g → (k : ℕ) → k < 2 ^ 64 → said (reply b (get k)) ≡ some (putSince es k)
@@ -86,18 +86,18 @@ abbrev pub NoneRefused : List Event → Type 0
 NoneRefused [] = Unit {0}
 NoneRefused (e ∷ es) = (e ≡ turnedDown → ⊥) × NoneRefused es
 
--- The key is lost: it was put and not deleted since, and a get says none.
+-- The key is lost: it was put, with this value, and not deleted since, and a get says none.
 pub record Lost (k v : ℕ) (b : Areas) (es : List Event) : Type 0 where
   pub last : putSince es k ≡ some v
   pub gone : said (reply b (get k)) ≡ some none
 
--- After n of them: put (K + 1) × E + 1, which is at most put 8416, loses the key of the first.
+-- After n of them. Put (K + 1) × E + 1, which comes at 8416 at the latest, loses the key of the first.
 pub record Reached (g : Geometry) (n : ℕ) (b : Areas) (es : List Event) : Type 0 where
   pub taken : NoneRefused es
   pub flushes : flushesDone b ≡ mostFlushes g n
   pub lost : n ≡ firstLost g → Lost 0 1 b es
 
--- The calls cs behind a format of g left the areas b, and es was heard of all of them.
+-- The calls cs, behind a format of g, left the areas b; es is what was heard of the format and of them.
 pub record Carried (g : Geometry) (cs : List Call) (b : Areas) (es : List Event) : Type 0 where
   pub within : AllFit cs → AllBetween cs → Within g cs b es
   pub reached : (n : ℕ) → n < 2 ^ 32 → cs ≡ onePage n → Reached g n b es

@@ -7,6 +7,7 @@ pub mod Closing
 pub mod Powers
 pub mod Sums
 pub mod Sizes
+pub mod SmallKeys
 pub mod Lengths
 pub mod Bits
 pub mod Tables

@@ -15,15 +15,7 @@ use exported::of_written;
 use model::Geometry;
 
 // The numbers of a table, which C hands over one by one.
-fn numbers(
-    s: u32,
-    page: u32,
-    pages: u32,
-    kept: u32,
-    bits: u32,
-    hashes: u32,
-    list: u32,
-) -> Geometry
+fn numbers(s: u32, page: u32, pages: u32, kept: u32, bits: u32, hashes: u32, list: u32) -> Geometry
     ensures { λ r. ⌜ r ≡ geometry s page pages kept bits hashes list ⌝ }
 {
     Geometry {

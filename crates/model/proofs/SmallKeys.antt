@@ -24,10 +24,10 @@ module _ (g : Geometry) (k : ℕ) (small : k < 2 ^ 18) where
   unfolding mixed
   mixed-small = left-lt 17 31 _ (right-lt 7 31 _ (left-lt 13 18 k small (omega arith))) (omega arith)
 
-  pub page-zero : pageOf g k ≡ 0
+  pub small-page : pageOf g k ≡ 0
   unfolding pageOf
-  page-zero = rw (div-eq-of-lt mixed-small) (zero-mod (g .pages))
+  small-page = rw (div-eq-of-lt mixed-small) (zero-mod (g .pages))
 
-  pub partition-zero : allowed g ≡ true → partitionOf g k ≡ 0
+  pub small-partition : allowed g ≡ true → partitionOf g k ≡ 0
   unfolding partitionOf
-  partition-zero ok = div-eq-of-lt (omega (arith, pow-mono {i = 18} {j = 64 - g .parts} (omega (arith, sizes g ok .parts-max))))
+  small-partition ok = div-eq-of-lt (omega (arith, pow-mono {i = 18} {j = 64 - g .parts} (omega (arith, sizes g ok .parts-max))))
