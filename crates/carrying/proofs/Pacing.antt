@@ -34,7 +34,7 @@ use Rattle.history.proofs.Credit.{entriesIn, page-entries}
 use Rattle.history.proofs.InStep.{InStep, InStepBy, by-table}
 use Rattle.history.proofs.Demand.{says}
 use Rattle.history.proofs.Keyed.{del-kept, put-result, put-kept, tablePut}
-use Rattle.carrying.specs.Carrying.{Between, AllBetween, isPut, putsIn, flushesDone, given, lastPut}
+use Rattle.carrying.specs.Carrying.{Between, AllBetween, putsOf, putsIn, flushesDone, given, lastPut}
 
 -- ---- the flushes of all partitions
 abbrev pub flushesIn : Geometry → (ℕ → Part) → ℕ
@@ -175,10 +175,10 @@ module _ {g : Geometry} {n : ℕ} {a : Areas} {d : ℕ → Option ℕ} (at : Pac
 
   -- ---- every call
   abbrev Next : Call → Areas → Event → Type 0
-  Next c a′ e = Paced g (n + isPut c) a′ (given d e)
+  Next c a′ e = Paced g (n + putsOf c) a′ (given d e)
 
-  looks : (c : Call) → isPut c ≡ 0 → ((m : ℕ) → accepted c m ≡ looking) → effect a c ≡ a → Next c (after a c) (heard c (reply a c))
-  looks c no-put only same = let stays : Paced g (n + isPut c) a d = rw (no-put, add-zero) at in look-leaves a c (Next c) only same stays stays
+  looks : (c : Call) → putsOf c ≡ 0 → ((m : ℕ) → accepted c m ≡ looking) → effect a c ≡ a → Next c (after a c) (heard c (reply a c))
+  looks c no-put only same = let stays : Paced g (n + putsOf c) a d = rw (no-put, add-zero) at in look-leaves a c (Next c) only same stays stays
 
   next : (c : Call) → Fits c → Between c → Next c (after a c) (heard c (reply a c))
   next (format g) fits between = absurd between
@@ -208,4 +208,4 @@ pub along : {g : Geometry} (cs : List Call) → AllFit cs → AllBetween cs → 
 unfolding putsIn run events lastPut
 along [] fits between n m e a d at = rw (← e, add-zero) at
 along (c ∷ cs) fits between n m e a d at =
-    along cs (fits .1) (between .1) (n + isPut c) m (omega arith) (after a c) (given d (heard c (reply a c))) (next at c (fits .0) (between .0))
+    along cs (fits .1) (between .1) (n + putsOf c) m (omega arith) (after a c) (given d (heard c (reply a c))) (next at c (fits .0) (between .0))

@@ -15,7 +15,7 @@ use Rattle.model.specs.Calls.{Call, format, put, get, del, flush, view, count, 
 use Rattle.history.specs.History.{Event, formatted, putting, deleting, flushing, dropping, looking, turnedDown, events}
 use Rattle.history.specs.Claim.{AllFit, isRefused, said}
 
--- What may stand between the puts: neither a flush nor a drop, which are asked for, nor a format, which begins another table. Every other call may.
+-- The calls of a list: puts, and between them every call but a flush and a drop, which would be asked for, and a format, which begins another table.
 abbrev pub Between : Call → Type 0
 Between (format g) = ⊥
 Between (put k v) = Unit {0}
@@ -32,20 +32,20 @@ AllBetween [] = Unit {0}
 AllBetween (c ∷ cs) = Between c × AllBetween cs
 
 -- A put counts, refused or not.
-abbrev pub isPut : Call → ℕ
-isPut (format g) = 0
-isPut (put k v) = 1
-isPut (get k) = 0
-isPut (del k) = 0
-isPut (flush t) = 0
-isPut (view t q n) = 0
-isPut (count t) = 0
-isPut (text t room) = 0
-isPut (drop t) = 0
+abbrev pub putsOf : Call → ℕ
+putsOf (format g) = 0
+putsOf (put k v) = 1
+putsOf (get k) = 0
+putsOf (del k) = 0
+putsOf (flush t) = 0
+putsOf (view t q n) = 0
+putsOf (count t) = 0
+putsOf (text t room) = 0
+putsOf (drop t) = 0
 
 unfoldable pub putsIn : List Call → ℕ
 putsIn [] = 0
-putsIn (c ∷ cs) = isPut c + putsIn cs
+putsIn (c ∷ cs) = putsOf c + putsIn cs
 
 -- the flushes done, in all partitions together
 unfoldable pub flushesDone : Areas → ℕ

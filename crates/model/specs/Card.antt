@@ -6,7 +6,7 @@ use Rattle.model.specs.declared.Geometry.{Geometry}
 use Rattle.model.specs.declared.Card.{Card}
 use Rattle.model.specs.declared.Figured.{Figured}
 
--- The most flushes that n puts cause on a fresh table: each needs a full page, E puts, and one put more. Of no puts 0, since 0 − 1 is 0 here.
+-- The most flushes that n puts cause on a fresh table: each has E puts of its own, which filled a page, and the put that causes it comes behind them. Of no puts it is 0, since 0 − 1 is 0 here.
 unfoldable pub mostFlushes : Geometry → ℕ → ℕ
 mostFlushes g n = (n - 1) / capacity g
 
