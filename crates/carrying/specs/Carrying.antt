@@ -102,7 +102,7 @@ pub record Carried (g : Geometry) (cs : List Call) (b : Areas) (es : List Event)
   pub within : AllFit cs → AllBetween cs → Within g cs b es
   pub reached : (n : ℕ) → n < 2 ^ 32 → cs ≡ onePage n → Reached g n b es
 
--- From an accepted format on areas of any content, after every list of calls.
+-- Whatever the areas held when a format was accepted, and whichever calls came behind it.
 unfoldable pub CardCarries : Type 0
 CardCarries = (a : Areas) (g : Geometry) → isRefused (reply a (format g)) ≡ false
     → (cs : List Call) → Carried g cs (run a (format g ∷ cs)) (events a (format g ∷ cs))
