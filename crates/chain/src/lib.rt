@@ -1,1 +1,1 @@
-// Demand 3 about the calls themselves: stated in specs/Chain.antt, from what each call promises; its theorem is in proofs/Chain.antt.
+// Demand 3, and what a card carries, about the calls themselves: stated in specs/, Chain.antt and Carrying.antt, from what each call promises; the theorems are in the files of the same names in proofs/.

@@ -1,1 +1,1 @@
-// Demand 3 about the calls of the C interface: stated in specs/Linked.antt, from what each promises; its theorem is in proofs/Linked.antt.
+// Demand 3, and what a card carries, about the calls of the C interface: stated in specs/, Linked.antt and Carrying.antt, from what each promises; the theorems are in the files of the same names in proofs/.
