@@ -1,4 +1,4 @@
-// What a card will carry: four figures from a geometry and a number of puts, on no areas.
+// What a card will carry: four figures from a geometry and a number of puts, on no areas (02, job 7).
 ghost use mathlib.Core.Bool.{true};
 ghost use mathlib.Core.Path.{_≡_};
 ghost use Rattle.model.specs.Geometry.{allowed};

@@ -65,7 +65,7 @@ unfoldable pub lastPut : (ℕ → Option ℕ) → List Event → ℕ → Option 
 lastPut d [] = d
 lastPut d (e ∷ es) = lastPut (given d e) es
 
--- what is heard from a format on
+-- of all that was heard, from nothing on
 abbrev pub putSince : List Event → ℕ → Option ℕ
 putSince es = lastPut (λ k. none) es
 

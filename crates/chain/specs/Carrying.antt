@@ -1,4 +1,4 @@
--- What a card carries, about calls that were made one after another on the same two areas.
+-- What a card carries (02, job 7), about calls that were made one after another on the same two areas.
 use Prim.Native.Nat.{ℕ}
 use mathlib.Core.Bool.{false}
 use mathlib.Core.List.{List, _∷_}

@@ -1,4 +1,4 @@
--- What a card carries, about the calls that a linked program makes.
+-- What a card carries (02, job 7), about the calls that a linked program makes.
 use Prim.Native.Nat.{ℕ}
 use mathlib.Core.Bool.{false}
 use mathlib.Core.List.{List, _∷_}
