@@ -92,8 +92,8 @@ impl History {
 
     fn check_get(&self, key: u64, answer: Answer) {
         let (value, reads) = match answer {
-            Answer::Found(value, reads, _) => (Some(value), reads),
-            Answer::None(reads) => (None, reads),
+            Answer::Found(value, reads, ..) => (Some(value), reads),
+            Answer::None(reads, _) => (None, reads),
             other => panic!("get of {key}: {other:?}"),
         };
         assert_eq!(

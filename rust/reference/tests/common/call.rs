@@ -31,16 +31,17 @@ impl Call {
     }
 }
 
-/// A call's answer. A view tells where its part begins and how long it is, a
-/// text how long it is and a digest of the whole text area behind the call, a
-/// drop how many keys left the list.
+/// A call's answer. A get tells the value, if it found one, reads, comparisons
+/// and, if found, the batch, 0 for the buffer. A view tells where its part begins
+/// and how long it is, a text how long it is and a digest of the whole text area
+/// behind the call, a drop how many keys left the list.
 #[derive(Clone, Copy, Debug, PartialEq, Eq)]
 pub enum Answer {
     Refused(u32, u32),
     Done(u32),
     Counted(u32),
-    Found(u64, u32, u32),
-    None(u32),
+    Found(u64, u32, u32, u32),
+    None(u32, u32),
     InMemory(usize, usize),
     InFlash(usize, usize),
     Text(usize, u64),
@@ -117,14 +118,15 @@ pub fn digest(bytes: &[u8]) -> u64 {
 
 fn lookup(lookup: Lookup) -> Answer {
     match lookup {
-        Lookup::None { reads } => Answer::None(reads),
+        Lookup::None { reads, comparisons } => Answer::None(reads, comparisons),
         Lookup::Found {
             value,
             reads,
+            comparisons,
             place,
         } => match place {
-            Place::Buffer => Answer::Found(value, reads, 0),
-            Place::Batch(number) => Answer::Found(value, reads, number),
+            Place::Buffer => Answer::Found(value, reads, comparisons, 0),
+            Place::Batch(number) => Answer::Found(value, reads, comparisons, number),
         },
     }
 }
