@@ -2,6 +2,7 @@
 
 use reference::{Geometry, Lookup, Place, Refusal};
 
+use super::bill::bill;
 use super::plain::{home, length, number};
 
 /// A call with its arguments.
@@ -57,7 +58,7 @@ pub fn call_index(call: Call, memory: &mut [u8], flash: &mut [u8]) -> Answer {
     match call {
         Call::Format(g) => reference::format(memory, flash, g).map(|()| Answer::Done(0)),
         Call::Put(key, value) => reference::put(memory, flash, key, value).map(Answer::Done),
-        Call::Get(key) => reference::get(memory, flash, key).map(lookup),
+        Call::Get(key) => index_get(memory, flash, key).map(lookup),
         Call::Del(key) => reference::del(memory, flash, key).map(|()| Answer::Done(0)),
         Call::Flush(t) => reference::flush(memory, flash, t).map(Answer::Done),
         Call::Count(t) => reference::count(memory, flash, t).map(Answer::Counted),
@@ -93,6 +94,23 @@ fn listed(memory: &[u8], t: u32) -> u32 {
     let at = 36 + t as usize * length(g);
     let listed = memory.get(at..at + 4).map_or(0, number);
     listed as u32
+}
+
+/// What get answers: an accepted one has the reads and the comparisons that are
+/// counted one by one.
+pub fn index_get(memory: &[u8], flash: &[u8], key: u64) -> Result<Lookup, Refusal> {
+    let answer = reference::get(memory, flash, key);
+    if let Ok(
+        Lookup::Found {
+            reads, comparisons, ..
+        }
+        | Lookup::None { reads, comparisons },
+    ) = answer
+    {
+        let told = (reads, comparisons);
+        assert_eq!(told, bill(memory, flash, key), "get of {key}");
+    }
+    answer
 }
 
 /// What text answers and leaves in an area of so many bytes: a refused one has

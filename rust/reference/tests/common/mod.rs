@@ -2,6 +2,7 @@
 //! set by hand, and the offsets written out again from document 01.
 #![allow(dead_code)]
 
+pub mod bill;
 pub mod call;
 pub mod carry;
 pub mod oracle;
@@ -190,7 +191,7 @@ impl Table {
     }
 
     pub fn get(&self, key: u64) -> Result<Lookup, Refusal> {
-        reference::get(&self.memory, &self.flash, key)
+        call::index_get(&self.memory, &self.flash, key)
     }
 
     pub fn del(&mut self, key: u64) -> Result<(), Refusal> {
