@@ -86,6 +86,8 @@ pub enum Lookup {
         value: u64,
         /// The flash pages read.
         reads: u32,
+        /// The entries compared, up to the one that answers (02, job 8).
+        comparisons: u32,
         /// Where the key was.
         place: Place,
     },
@@ -93,5 +95,7 @@ pub enum Lookup {
     None {
         /// The flash pages read.
         reads: u32,
+        /// The entries compared, none for a listed key (02, job 8).
+        comparisons: u32,
     },
 }

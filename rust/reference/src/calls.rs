@@ -10,6 +10,7 @@ use crate::live;
 use crate::page::{self, Name};
 use crate::partition::{Head, Partition, PartitionMut};
 use crate::record;
+use crate::tally::Tally;
 
 /// Makes an empty table of the geometry. Flash only has to be long enough.
 pub fn format(memory: &mut [u8], flash: &[u8], geometry: Geometry) -> Result<(), Refusal> {
@@ -75,31 +76,23 @@ pub fn get(memory: &[u8], flash: &[u8], key: u64) -> Result<Lookup, Refusal> {
     let name = name_of(&layout, key);
     let partition = Partition::cut(&layout, memory, name.partition)?;
     let used = page::used(partition.page(&layout, name.page)).ok_or(Refusal::Overfull)?;
+    let mut tally = Tally::default();
     if record::find(partition.listed, key).is_some() {
-        return Ok(Lookup::None { reads: 0 });
+        return Ok(tally.none());
     }
-    if let Some(place) = record::find(used, key) {
-        return Ok(Lookup::Found {
-            value: record::rest(&used[place]),
-            reads: 0,
-            place: Place::Buffer,
-        });
+    if let Some(entry) = tally.search(used, key) {
+        return Ok(tally.found(entry, Place::Buffer));
     }
-    let mut reads = 0;
     for batch in partition.passing(&layout, Bits::of(&layout, key)) {
-        reads += 1;
+        tally.reads += 1;
         let page = flash_page(&layout, flash, name, batch.slot);
-        let used =
-            page::used_of_batch(page, name, batch.number).ok_or(Refusal::BatchPage { reads })?;
-        if let Some(place) = record::find(used, key) {
-            return Ok(Lookup::Found {
-                value: record::rest(&used[place]),
-                reads,
-                place: Place::Batch(batch.number),
-            });
+        let used = page::used_of_batch(page, name, batch.number);
+        let used = used.ok_or(Refusal::BatchPage { reads: tally.reads })?;
+        if let Some(entry) = tally.search(used, key) {
+            return Ok(tally.found(entry, Place::Batch(batch.number)));
         }
     }
-    Ok(Lookup::None { reads })
+    Ok(tally.none())
 }
 
 /// Takes the key out of the table. No flash is read: where a live batch may

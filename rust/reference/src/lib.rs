@@ -26,6 +26,7 @@ mod page;
 mod partition;
 mod record;
 pub mod session;
+mod tally;
 mod text;
 
 pub use answer::{Lookup, Place, Refusal};

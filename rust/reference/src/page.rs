@@ -4,7 +4,7 @@
 //! zero 4. E is never passed along: it is the number of whole records that
 //! follow the head, so a count above E is a slice that can't be cut.
 
-use crate::record::Record;
+use crate::record::{self, Record};
 
 /// A page's place in the table, as its head tells it.
 #[derive(Clone, Copy, Debug, PartialEq, Eq)]
@@ -47,6 +47,27 @@ pub fn used_of_batch(page: &[u8], name: Name, number: u32) -> Option<&[Record]> 
 #[inline]
 fn count(head: &Record) -> usize {
     usize::from(u128::from_le_bytes(*head) as u16)
+}
+
+/// What the search of a page comes to (02, job 8).
+#[derive(Clone, Copy, Debug, PartialEq, Eq)]
+pub struct Search {
+    /// Where the key's first entry stands, from 0, if there is one.
+    pub place: Option<usize>,
+    /// The entries compared: all up to that one, or every used entry.
+    pub comparisons: u32,
+}
+
+/// Searches a page's used entries for the key.
+///
+/// The comparisons follow from the place: a count kept on the way would be one
+/// more thing to do for every entry. An entry counts once, though a block of
+/// them may be looked at twice.
+#[inline]
+pub fn search(used: &[Record], key: u64) -> Search {
+    let place = record::find(used, key);
+    let comparisons = place.map_or(used.len(), |place| place + 1) as u32;
+    Search { place, comparisons }
 }
 
 /// The entries of a page that is to change, used or not.

@@ -120,16 +120,26 @@ impl fmt::Display for Answer {
     fn fmt(&self, output: &mut fmt::Formatter<'_>) -> fmt::Result {
         match *self {
             Answer::Done(number) => write!(output, "(ok {number})"),
-            Answer::Lookup(Lookup::Found { value, reads, .. }) => {
-                write!(output, "(found {value} {reads})")
-            }
-            Answer::Lookup(Lookup::None { reads }) => write!(output, "(none {reads})"),
+            Answer::Lookup(lookup) => write_lookup(output, lookup),
             Answer::Refused(refusal) => {
                 let (number, reads) = (refusal.number(), refusal.reads());
                 write!(output, "(refused {number} {reads})")
             }
             Answer::Bad => write!(output, "(bad)"),
         }
+    }
+}
+
+/// A get's line, which ends with the comparisons (02, job 8).
+fn write_lookup(output: &mut fmt::Formatter<'_>, lookup: Lookup) -> fmt::Result {
+    match lookup {
+        Lookup::Found {
+            value,
+            reads,
+            comparisons,
+            ..
+        } => write!(output, "(found {value} {reads} {comparisons})"),
+        Lookup::None { reads, comparisons } => write!(output, "(none {reads} {comparisons})"),
     }
 }
 

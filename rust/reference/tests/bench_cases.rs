@@ -48,7 +48,7 @@ fn case_5_a_filter_that_passes_a_key_its_batch_lacks() {
     assert_eq!(table.put(2, 8), Ok(0));
     assert_eq!(table.flush(0), Ok(1));
     assert_eq!(table.filter(0, 0), [0b0001_1111, 0, 0, 0, 0, 0, 0, 0]);
-    assert_eq!(table.get(1), none(1));
+    assert_eq!(table.get(1), none(1, 2));
 }
 
 #[test]
@@ -58,11 +58,11 @@ fn case_6_the_fourth_key_flushes_and_a_repeat_does_not() {
         assert_eq!(table.put(key, key), Ok(0));
     }
     assert_eq!(table.put(3, 9), Ok(0));
-    assert_eq!(table.get(3), found(9, 0, 0));
+    assert_eq!(table.get(3), found(9, 0, 3, 0));
     assert_eq!(table.put(4, 4), Ok(1));
     assert_eq!(table.flushes(0), 1);
-    assert_eq!(table.get(4), found(4, 0, 0));
-    assert_eq!(table.get(3), found(9, 1, 1));
+    assert_eq!(table.get(4), found(4, 0, 1, 0));
+    assert_eq!(table.get(3), found(9, 1, 4, 1));
 }
 
 #[test]
@@ -72,10 +72,10 @@ fn case_7_a_key_lasts_two_flushes() {
     assert_eq!(table.flush(0), Ok(1));
     table.put(2, 20).unwrap();
     assert_eq!(table.flush(0), Ok(1));
-    assert_eq!(table.get(1), found(10, 1, 1));
+    assert_eq!(table.get(1), found(10, 1, 1, 1));
     table.put(2, 21).unwrap();
     assert_eq!(table.flush(0), Ok(1));
-    assert_eq!(table.get(1), none(0));
+    assert_eq!(table.get(1), none(0, 0));
 }
 
 #[test]

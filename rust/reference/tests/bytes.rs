@@ -211,13 +211,13 @@ fn live_batches_go_by_number_and_not_by_slot() {
     for value in 1..=7u64 {
         table.put(PAGE_1, value).unwrap();
         table.flush(0).unwrap();
-        assert_eq!(table.get(PAGE_1), found(value, 1, value as u32));
+        assert_eq!(table.get(PAGE_1), found(value, 1, 1, value as u32));
     }
     // Batches 5, 6 and 7 lie in slots 1, 2 and 0.
     table.batch(0, 0, 1)[0] = 0;
-    assert_eq!(table.get(PAGE_1), found(6, 2, 6));
+    assert_eq!(table.get(PAGE_1), found(6, 2, 1, 6));
     table.batch(0, 2, 1)[0] = 0;
-    assert_eq!(table.get(PAGE_1), found(5, 3, 5));
+    assert_eq!(table.get(PAGE_1), found(5, 3, 1, 5));
     table.batch(0, 1, 1)[0] = 0;
-    assert_eq!(table.get(PAGE_1), none(3));
+    assert_eq!(table.get(PAGE_1), none(3, 0));
 }

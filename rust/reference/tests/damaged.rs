@@ -60,7 +60,8 @@ fn near(rng: &mut Rng, bound: u32) -> u32 {
 }
 
 /// A partition after so many flushes and drops, with live batches that are in
-/// order but hold any of the keys, or the same one twice.
+/// order but hold any of the keys, or the same one twice, or one behind the used
+/// entries.
 fn invent_batches(rng: &mut Rng, table: &mut Table, t: usize, keys: &[u64]) {
     let g = table.g;
     let flushes = near(rng, 2 * g.kept);
@@ -73,11 +74,12 @@ fn invent_batches(rng: &mut Rng, table: &mut Table, t: usize, keys: &[u64]) {
     for (number, slot) in live(g, flushes.into(), number.into()) {
         for q in 0..g.pages as usize {
             let count = rng.below(g.page as usize / 16);
+            let behind = rng.below(3);
             let page = table.batch(t, slot, q);
             page.fill(0);
             (page[0], page[2], page[4]) = (count as u8, q as u8, t as u8);
             set_word(page, 8, number as u32);
-            for entry in page[16..].chunks_mut(16).take(count) {
+            for entry in page[16..].chunks_mut(16).take(count + behind) {
                 entry.copy_from_slice(&common::record(rng.pick(keys), rng.next()));
             }
         }
@@ -139,9 +141,12 @@ fn invent_list(rng: &mut Rng, table: &mut Table, t: usize, keys: &[u64]) {
 }
 
 fn invent_buffer(rng: &mut Rng, table: &mut Table, t: usize, q: usize, keys: &[u64]) {
-    let count = rng.below(table.g.page as usize / 16);
-    let entries: Vec<_> = (0..count).map(|_| (rng.pick(keys), rng.next())).collect();
+    let most = table.g.page as usize / 16 - 1;
+    let count = rng.below(most + 1);
+    let number = most.min(count + rng.below(3));
+    let entries: Vec<_> = (0..number).map(|_| (rng.pick(keys), rng.next())).collect();
     table.fill_buffer(t, q, &entries);
+    table.buffer(t, q)[0] = count as u8;
 }
 
 fn damage(rng: &mut Rng, table: &mut Table, keys: &[u64]) {

@@ -43,8 +43,8 @@ fn a_drop_after_one_flush() {
     assert_eq!(table.drop_oldest(0), Ok(()));
     assert_eq!(head(&mut table), (1, 0, 1));
     // The filter still passes, but nobody asks it.
-    assert_eq!(table.get(1), none(0));
-    assert_eq!(table.get(9), found(90, 0, 0));
+    assert_eq!(table.get(1), none(0, 1));
+    assert_eq!(table.get(9), found(90, 0, 1, 0));
     check_total(&table);
 }
 
@@ -53,11 +53,11 @@ fn drops_after_two_flushes() {
     let mut table = flushed(2);
     assert_eq!(table.drop_oldest(0), Ok(()));
     assert_eq!(head(&mut table), (2, 1, 1));
-    assert_eq!(table.get(1), none(0));
-    assert_eq!(table.get(2), found(20, 1, 2));
+    assert_eq!(table.get(1), none(0, 0));
+    assert_eq!(table.get(2), found(20, 1, 1, 2));
     assert_eq!(table.drop_oldest(0), Ok(()));
     assert_eq!(head(&mut table), (2, 0, 0));
-    assert_eq!(table.get(2), none(0));
+    assert_eq!(table.get(2), none(0, 0));
 }
 
 #[test]
@@ -65,9 +65,9 @@ fn the_oldest_goes_by_number_and_not_by_slot() {
     // Batches 5, 6 and 7 lie in the slots 1, 2 and 0.
     let mut table = flushed(7);
     for key in 5..=7 {
-        assert_eq!(table.get(key), found(10 * key, 1, key as u32));
+        assert_eq!(table.get(key), found(10 * key, 1, 1, key as u32));
         assert_eq!(table.drop_oldest(0), Ok(()));
-        assert_eq!(table.get(key), none(0));
+        assert_eq!(table.get(key), none(0, 0));
         check_total(&table);
     }
     assert_eq!(head(&mut table), (7, 0, 0));
@@ -81,12 +81,12 @@ fn a_key_is_found_in_what_stays() {
     table.put(2, 22).unwrap();
     for _ in 0..2 {
         table.drop_oldest(0).unwrap();
-        assert_eq!(table.get(1), found(11, 1, 3));
-        assert_eq!(table.get(2), found(22, 0, 0));
+        assert_eq!(table.get(1), found(11, 1, 2, 3));
+        assert_eq!(table.get(2), found(22, 0, 1, 0));
     }
     table.drop_oldest(0).unwrap();
-    assert_eq!(table.get(1), none(0));
-    assert_eq!(table.get(2), found(22, 0, 0));
+    assert_eq!(table.get(1), none(0, 1));
+    assert_eq!(table.get(2), found(22, 0, 1, 0));
 }
 
 #[test]
@@ -101,7 +101,7 @@ fn list_entries_go_with_the_batch_that_they_are_stamped_with() {
     assert_eq!(table.list_place(0, 2), [0; 16]);
     // None of the keys comes back.
     for key in 1..=3 {
-        assert_eq!(table.get(key), none(0));
+        assert_eq!(table.get(key), none(0, 0));
     }
     table.drop_oldest(0).unwrap();
     table.drop_oldest(0).unwrap();
@@ -117,9 +117,9 @@ fn a_key_listed_for_a_younger_batch_stays_gone() {
     assert_eq!(table.list_place(0, 0), record(1, 2));
     table.drop_oldest(0).unwrap();
     assert_eq!(table.list(0), [(1, 2)]);
-    assert_eq!(table.get(1), none(0));
+    assert_eq!(table.get(1), none(0, 0));
     table.put(1, 12).unwrap();
-    assert_eq!(table.get(1), found(12, 0, 0));
+    assert_eq!(table.get(1), found(12, 0, 1, 0));
 }
 
 #[test]
@@ -178,14 +178,14 @@ fn a_flush_after_a_drop_pushes_nothing_out() {
     table.flush(0).unwrap();
     assert_eq!(head(&mut table), (5, 3, 3));
     for key in 3..=5 {
-        assert_eq!(table.get(key), found(10 * key, 1, key as u32));
+        assert_eq!(table.get(key), found(10 * key, 1, 1, key as u32));
     }
     check_total(&table);
     // Three are live again, so the next one pushes batch 3 out.
     table.put(6, 60).unwrap();
     table.flush(0).unwrap();
     assert_eq!(head(&mut table), (6, 3, 3));
-    assert_eq!(table.get(3), none(0));
+    assert_eq!(table.get(3), none(0, 0));
     check_total(&table);
 }
 
@@ -200,8 +200,8 @@ fn a_put_that_flushes_after_a_drop_pushes_nothing_out() {
         assert_eq!(table.put(key, 10 * key), Ok(pages));
     }
     assert_eq!(head(&mut table), (5, 2, 5));
-    assert_eq!(table.get(4), found(40, 1, 4));
-    assert_eq!(table.get(5), found(50, 1, 5));
+    assert_eq!(table.get(4), found(40, 1, 2, 4));
+    assert_eq!(table.get(5), found(50, 1, 2, 5));
     check_total(&table);
 }
 
@@ -268,10 +268,10 @@ fn a_get_reads_live_batches_alone() {
     for slot in 0..3 {
         table.filter(0, slot).fill(0xff);
     }
-    assert_eq!(table.get(9), none(3));
+    assert_eq!(table.get(9), none(3, 3));
     for reads in [2, 1, 0] {
         table.drop_oldest(0).unwrap();
-        assert_eq!(table.get(9), none(reads));
+        assert_eq!(table.get(9), none(reads, reads));
     }
 }
 

@@ -128,7 +128,7 @@ fn the_last_numbers() {
         assert_eq!(keys, left);
     }
     assert_eq!(table.refuses(|t| t.drop_oldest(0)), (23, 0));
-    assert_eq!(table.get(7), none(0));
+    assert_eq!(table.get(7), none(0, 0));
     assert_eq!(table.text(0), Ok(String::new()));
     // A batch of another number lies where the oldest should.
     let mut table = Table::new(LISTS);

@@ -1,6 +1,7 @@
 //! The history rule: whatever the list of calls, a get answers what the calls
-//! before it say, within the reads and the page writes that are allowed, and a
-//! count tells the sum of the page counts.
+//! before it say, within the reads and the page writes that are allowed and the
+//! comparisons that its pages have room for, and a count tells the sum of the
+//! page counts.
 
 mod common;
 
@@ -91,9 +92,9 @@ impl History {
     }
 
     fn check_get(&self, key: u64, answer: Answer) {
-        let (value, reads) = match answer {
-            Answer::Found(value, reads, _) => (Some(value), reads),
-            Answer::None(reads) => (None, reads),
+        let (value, reads, comparisons) = match answer {
+            Answer::Found(value, reads, comparisons, _) => (Some(value), reads, comparisons),
+            Answer::None(reads, comparisons) => (None, reads, comparisons),
             other => panic!("get of {key}: {other:?}"),
         };
         assert_eq!(
@@ -104,6 +105,8 @@ impl History {
         assert_ne!(value, Some(0), "get of {key}");
         let live = self.live(self.partition(key));
         assert!(reads <= live, "get of {key}: {reads} reads");
+        let room = (1 + reads) * (self.g.page / 16 - 1);
+        assert!(comparisons <= room, "get of {key}: {comparisons}");
     }
 
     /// A drop is refused with 23 only where no batch is live.

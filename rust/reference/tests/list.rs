@@ -23,7 +23,7 @@ fn the_stamp_is_the_youngest_batch_that_passes() {
     table.filter(0, 1).fill(0xff);
     assert_eq!(table.del(1), Ok(()));
     assert_eq!(table.list(0), [(1, 2)]);
-    assert_eq!(table.get(1), none(0));
+    assert_eq!(table.get(1), none(0, 0));
 }
 
 #[test]
@@ -35,7 +35,7 @@ fn a_key_in_the_buffer_is_listed_for_its_older_batch() {
     assert_eq!(table.del(1), Ok(()));
     assert_eq!(table.list(0), [(1, 1)]);
     assert_eq!(table.buffer(0, 0)[0], 0);
-    assert_eq!(table.get(1), none(0));
+    assert_eq!(table.get(1), none(0, 0));
 }
 
 #[test]
@@ -72,13 +72,13 @@ fn put_takes_the_key_off_the_list() {
     assert_eq!(table.list(0), [(5, 1), (7, high | 2), (6, 3)]);
     assert_eq!(table.list_place(0, 3), [0; 16]);
     assert_eq!(table.list_place(0, 4), [0xdd; 16]);
-    assert_eq!(table.get(6), none(0));
+    assert_eq!(table.get(6), none(0, 0));
     table.put(6, 61).unwrap();
     assert_eq!(table.list(0), [(5, 1), (7, high | 2)]);
     assert_eq!(table.list_place(0, 2), [0; 16]);
     assert_eq!(table.list_place(0, 3), [0; 16]);
     assert_eq!(table.list_place(0, 4), [0xdd; 16]);
-    assert_eq!(table.get(6), found(61, 0, 0));
+    assert_eq!(table.get(6), found(61, 0, 1, 0));
 }
 
 #[test]
@@ -88,7 +88,7 @@ fn places_from_l_on_are_not_looked_at() {
     table.set_listed(0, 1);
     table.fill_buffer(0, 0, &[(6, 60)]);
     table.recount(0);
-    assert_eq!(table.get(6), found(60, 0, 0));
+    assert_eq!(table.get(6), found(60, 0, 1, 0));
     table.put(6, 61).unwrap();
     assert_eq!(table.list_place(0, 1), record(6, 1));
     assert_eq!(table.listed(0), 1);
@@ -106,13 +106,13 @@ fn entries_go_with_their_stamped_batch_and_not_before() {
         table.put(9, number).unwrap();
         table.flush(0).unwrap();
         assert_eq!(table.list(0), [(1, 1)], "after flush {number}");
-        assert_eq!(table.get(1), none(0));
+        assert_eq!(table.get(1), none(0, 0));
     }
     table.put(9, 4).unwrap();
     table.flush(0).unwrap();
     assert_eq!(table.list(0), []);
     assert_eq!(table.list_place(0, 0), [0; 16]);
-    assert_eq!(table.get(1), none(0));
+    assert_eq!(table.get(1), none(0, 0));
 }
 
 #[test]
@@ -191,5 +191,5 @@ fn lists_of_other_partitions_are_not_looked_at() {
     table.set_list(1, &[(1, 1)]);
     table.put(1, 10).unwrap();
     assert_eq!(table.list(1), [(1, 1)]);
-    assert_eq!(table.get(1), found(10, 0, 0));
+    assert_eq!(table.get(1), found(10, 0, 1, 0));
 }

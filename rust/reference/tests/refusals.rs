@@ -182,7 +182,7 @@ fn refusal_12_for_a_buffer_page() {
         assert_eq!(table.refuses(|t| t.flush(0)), (12, 0));
         // Small keys belong to page 0.
         assert_eq!(table.clone().put(4, 1), Ok(0));
-        assert_eq!(table.get(2), found(6, 0, 0));
+        assert_eq!(table.get(2), found(6, 0, 1, 0));
         assert_eq!(table.clone().del(2), Ok(()));
         assert!(table.view(0, 0, 0).is_ok());
         // A flash page is shown, the total told and a batch dropped, whatever the
@@ -201,7 +201,7 @@ fn refusal_12_for_a_buffer_page() {
 fn refusal_12_for_a_listed_key() {
     let mut table = used(G);
     table.set_list(0, &[(1, 1)]);
-    assert_eq!(table.get(1), none(0));
+    assert_eq!(table.get(1), none(0, 0));
     assert_eq!(table.clone().del(1), Ok(()));
     table.buffer(0, 0)[0] = 4;
     assert_eq!(table.refuses(|t| t.get(1)), (12, 0));
@@ -215,7 +215,7 @@ fn refusal_13_for_each_field_of_the_head() {
     let key = 1 << 63 | PAGE_1;
     table.put(key, 5).unwrap();
     table.flush(1).unwrap();
-    assert_eq!(table.get(key), found(5, 1, 1));
+    assert_eq!(table.get(key), found(5, 1, 1, 1));
     for byte in 0..12 {
         for number in [4, 9, 255] {
             let mut damaged = table.clone();
@@ -235,7 +235,7 @@ fn refusal_13_for_each_field_of_the_head() {
     }
     for byte in 12..16 {
         table.batch(1, 0, 1)[byte] = 255;
-        assert_eq!(table.get(key), found(5, 1, 1));
+        assert_eq!(table.get(key), found(5, 1, 1, 1));
         assert!(table.view(1, 1, 1).is_ok());
     }
 }
@@ -250,14 +250,14 @@ fn refusal_13_counts_the_pages_read() {
     // The youngest two no longer have the key, but their filters still pass.
     table.batch(0, 2, 0)[0] = 0;
     table.batch(0, 1, 0)[0] = 0;
-    assert_eq!(table.get(7), found(1, 3, 1));
+    assert_eq!(table.get(7), found(1, 3, 1, 1));
     table.batch(0, 0, 0)[8] = 4;
     assert_eq!(table.refuses(|t| t.get(7)), (13, 3));
     table.batch(0, 1, 0)[8] = 5;
     assert_eq!(table.refuses(|t| t.get(7)), (13, 2));
     // A page that isn't read isn't judged: the youngest now answers.
     table.batch(0, 2, 0)[0] = 1;
-    assert_eq!(table.get(7), found(3, 1, 3));
+    assert_eq!(table.get(7), found(3, 1, 1, 3));
 }
 
 #[test]
@@ -272,7 +272,7 @@ fn refusal_14_only_if_the_key_has_to_be_listed() {
     assert_eq!(table.list(0), [(0, 1)]);
     // The list is full. A refused del leaves the buffer's entry in place.
     assert_eq!(table.refuses(|t| t.del(1)), (14, 0));
-    assert_eq!(table.get(1), found(9, 0, 0));
+    assert_eq!(table.get(1), found(9, 0, 1, 0));
     // A key already listed, and a key that no filter passes, need no place.
     assert_eq!(table.clone().del(0), Ok(()));
     assert_eq!(table.clone().del(60), Ok(()));
@@ -280,7 +280,7 @@ fn refusal_14_only_if_the_key_has_to_be_listed() {
     table.set_listed(0, 0);
     assert_eq!(table.del(1), Ok(()));
     assert_eq!(table.list(0), [(1, 1)]);
-    assert_eq!(table.get(1), none(0));
+    assert_eq!(table.get(1), none(0, 0));
 }
 
 #[test]
@@ -305,14 +305,14 @@ fn refusal_16_when_the_numbers_are_used_up() {
     table.fill_buffer(0, 0, &[(1, 1), (2, 2), (3, 3)]);
     assert_eq!(table.put(4, 4), Ok(1));
     assert_eq!(table.flushes(0), u32::MAX);
-    assert_eq!(table.get(1), found(1, 1, u32::MAX));
+    assert_eq!(table.get(1), found(1, 1, 2, u32::MAX));
     assert_eq!(table.refuses(|t| t.flush(0)), (16, 0));
     assert_eq!(table.put(5, 5), Ok(0));
     assert_eq!(table.put(6, 6), Ok(0));
     assert_eq!(table.refuses(|t| t.put(7, 7)), (16, 0));
     // No flush is due for a key that has its place.
     assert_eq!(table.put(6, 60), Ok(0));
-    assert_eq!(table.get(6), found(60, 0, 0));
+    assert_eq!(table.get(6), found(60, 0, 3, 0));
 }
 
 #[test]
@@ -344,11 +344,11 @@ fn refusal_17_at_the_edges_of_the_live_numbers() {
 #[test]
 fn refusal_21_for_value_0_alone() {
     let mut table = Table::new(G);
-    for key in [0, 1, u64::MAX] {
+    for (key, place) in [(0, 0), (1, 1), (u64::MAX, 2)] {
         assert_eq!(table.refuses(|t| t.put(key, 0)), (21, 0));
         for value in [1, 1 << 32, 1 << 63, u64::MAX] {
             assert_eq!(table.put(key, value), Ok(0));
-            assert_eq!(table.get(key), found(value, 0, 0));
+            assert_eq!(table.get(key), found(value, 0, place + 1, 0));
         }
         // Nor does it take the value of a key that has one.
         assert_eq!(table.refuses(|t| t.put(key, 0)), (21, 0));

@@ -28,13 +28,13 @@ const WORKED_OUTPUT: &str = "\
 (ok 0)
 (ok 0)
 (ok 1)
-(found 20 1)
+(found 20 1 3)
 (ok 0)
-(none 0)
+(none 0 0)
 (refused 14 0)
-(found 30 1)
+(found 30 1 4)
 (ok 1)
-(found 40 1)
+(found 40 1 1)
 ";
 
 /// The output for an input, which must not depend on how it is read.
@@ -306,13 +306,13 @@ fn drops_of_a_partition() {
         ("(count 0)", "(ok 4)"),
         ("(drop 0)", "(ok 0)"),
         ("(count 0)", "(ok 1)"),
-        ("(get 1)", "(none 0)"),
-        ("(get 0)", "(found 40 1)"),
+        ("(get 1)", "(none 0 0)"),
+        ("(get 0)", "(found 40 1 1)"),
         ("(del 0)", "(ok 0)"),
         ("(put 5 50)", "(ok 0)"),
         ("(drop 0)", "(ok 0)"),
-        ("(get 0)", "(none 0)"),
-        ("(get 5)", "(found 50 0)"),
+        ("(get 0)", "(none 0 1)"),
+        ("(get 5)", "(found 50 0 1)"),
         ("(drop 0)", "(refused 23 0)"),
         ("(count 0)", "(ok 1)"),
     ]);

@@ -2,6 +2,7 @@
 
 use reference::{Geometry, Lookup, Place, Refusal};
 
+use super::bill::bill;
 use super::plain::{home, length, number};
 
 /// A call with its arguments.
@@ -31,16 +32,17 @@ impl Call {
     }
 }
 
-/// A call's answer. A view tells where its part begins and how long it is, a
-/// text how long it is and a digest of the whole text area behind the call, a
-/// drop how many keys left the list.
+/// A call's answer. A get tells the value, if it found one, reads, comparisons
+/// and, if found, the batch, 0 for the buffer. A view tells where its part begins
+/// and how long it is, a text how long it is and a digest of the whole text area
+/// behind the call, a drop how many keys left the list.
 #[derive(Clone, Copy, Debug, PartialEq, Eq)]
 pub enum Answer {
     Refused(u32, u32),
     Done(u32),
     Counted(u32),
-    Found(u64, u32, u32),
-    None(u32),
+    Found(u64, u32, u32, u32),
+    None(u32, u32),
     InMemory(usize, usize),
     InFlash(usize, usize),
     Text(usize, u64),
@@ -56,7 +58,7 @@ pub fn call_index(call: Call, memory: &mut [u8], flash: &mut [u8]) -> Answer {
     match call {
         Call::Format(g) => reference::format(memory, flash, g).map(|()| Answer::Done(0)),
         Call::Put(key, value) => reference::put(memory, flash, key, value).map(Answer::Done),
-        Call::Get(key) => reference::get(memory, flash, key).map(lookup),
+        Call::Get(key) => index_get(memory, flash, key).map(lookup),
         Call::Del(key) => reference::del(memory, flash, key).map(|()| Answer::Done(0)),
         Call::Flush(t) => reference::flush(memory, flash, t).map(Answer::Done),
         Call::Count(t) => reference::count(memory, flash, t).map(Answer::Counted),
@@ -94,6 +96,23 @@ fn listed(memory: &[u8], t: u32) -> u32 {
     listed as u32
 }
 
+/// What get answers: an accepted one has the reads and the comparisons that are
+/// counted one by one.
+pub fn index_get(memory: &[u8], flash: &[u8], key: u64) -> Result<Lookup, Refusal> {
+    let answer = reference::get(memory, flash, key);
+    if let Ok(
+        Lookup::Found {
+            reads, comparisons, ..
+        }
+        | Lookup::None { reads, comparisons },
+    ) = answer
+    {
+        let told = (reads, comparisons);
+        assert_eq!(told, bill(memory, flash, key), "get of {key}");
+    }
+    answer
+}
+
 /// What text answers and leaves in an area of so many bytes: a refused one has
 /// written nothing, an accepted one nothing behind the text.
 pub fn index_text(
@@ -117,14 +136,15 @@ pub fn digest(bytes: &[u8]) -> u64 {
 
 fn lookup(lookup: Lookup) -> Answer {
     match lookup {
-        Lookup::None { reads } => Answer::None(reads),
+        Lookup::None { reads, comparisons } => Answer::None(reads, comparisons),
         Lookup::Found {
             value,
             reads,
+            comparisons,
             place,
         } => match place {
-            Place::Buffer => Answer::Found(value, reads, 0),
-            Place::Batch(number) => Answer::Found(value, reads, number),
+            Place::Buffer => Answer::Found(value, reads, comparisons, 0),
+            Place::Batch(number) => Answer::Found(value, reads, comparisons, number),
         },
     }
 }

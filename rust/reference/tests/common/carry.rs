@@ -72,7 +72,7 @@ impl Carrying {
     fn is_lost(&mut self, key: u64) -> bool {
         let last = self.values.get(&key).copied();
         match self.call(Call::Get(key)) {
-            Answer::None(_) => last.is_some(),
+            Answer::None(..) => last.is_some(),
             Answer::Found(value, ..) => {
                 assert_eq!(Some(value), last, "get of {key}");
                 false

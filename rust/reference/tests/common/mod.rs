@@ -2,6 +2,7 @@
 //! set by hand, and the offsets written out again from document 01.
 #![allow(dead_code)]
 
+pub mod bill;
 pub mod call;
 pub mod carry;
 pub mod oracle;
@@ -144,7 +145,8 @@ pub fn refused<T>(answer: Result<T, Refusal>) -> (u32, u32) {
     }
 }
 
-pub fn found(value: u64, reads: u32, batch: u32) -> Result<Lookup, Refusal> {
+/// A get that found the value, in the buffer for batch 0.
+pub fn found(value: u64, reads: u32, comparisons: u32, batch: u32) -> Result<Lookup, Refusal> {
     let place = match batch {
         0 => Place::Buffer,
         number => Place::Batch(number),
@@ -152,12 +154,13 @@ pub fn found(value: u64, reads: u32, batch: u32) -> Result<Lookup, Refusal> {
     Ok(Lookup::Found {
         value,
         reads,
+        comparisons,
         place,
     })
 }
 
-pub fn none(reads: u32) -> Result<Lookup, Refusal> {
-    Ok(Lookup::None { reads })
+pub fn none(reads: u32, comparisons: u32) -> Result<Lookup, Refusal> {
+    Ok(Lookup::None { reads, comparisons })
 }
 
 /// Two areas of exactly the need, with all their bytes within reach.
@@ -188,7 +191,7 @@ impl Table {
     }
 
     pub fn get(&self, key: u64) -> Result<Lookup, Refusal> {
-        reference::get(&self.memory, &self.flash, key)
+        call::index_get(&self.memory, &self.flash, key)
     }
 
     pub fn del(&mut self, key: u64) -> Result<(), Refusal> {

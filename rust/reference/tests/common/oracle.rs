@@ -184,23 +184,23 @@ fn get(g: Geometry, memory: &[u8], flash: &[u8], key: u64) -> Result<Answer, Ans
     let page = &partition.buffer[q];
     check(head_fits(g, &partition) && fits(g, page), 12)?;
     if find(&partition.list, partition.listed, key).is_some() {
-        return Ok(Answer::None(0));
+        return Ok(Answer::None(0, 0));
     }
-    if let Some(i) = find(&page.entries, page.count, key) {
-        return Ok(Answer::Found(page.entries[i].1, 0, 0));
+    let (mut reads, mut compared) = (0, 0);
+    if let Some(value) = search(page, key, &mut compared) {
+        return Ok(Answer::Found(value, 0, compared, 0));
     }
-    let mut reads = 0;
     for (number, slot) in passing(g, &partition, key) {
         reads += 1;
         let page = read_page(&flash[flash_at(g, t, slot, q)..][..g.page as usize]);
         if !expected(g, &page, t, q, number) {
             return Err(Answer::Refused(13, reads));
         }
-        if let Some(i) = find(&page.entries, page.count, key) {
-            return Ok(Answer::Found(page.entries[i].1, reads, number as u32));
+        if let Some(value) = search(&page, key, &mut compared) {
+            return Ok(Answer::Found(value, reads, compared, number as u32));
         }
     }
-    Ok(Answer::None(reads))
+    Ok(Answer::None(reads, compared))
 }
 
 fn del(g: Geometry, memory: &mut [u8], key: u64) -> Result<Answer, Answer> {
@@ -325,7 +325,7 @@ fn text(g: Geometry, memory: &[u8], flash: &[u8], t: u32, room: usize) -> Result
             // A get tells the batch, and the key its page: the place in it is left.
             let here = home(g, key) == (t as usize, q)
                 && find(&page.entries, page.count, key) == Some(i)
-                && matches!(get(g, memory, flash, key)?, Answer::Found(_, _, n) if n == number);
+                && matches!(get(g, memory, flash, key)?, Answer::Found(.., n) if n == number);
             if here {
                 text += &format!("(put {key} {value})\n");
             }

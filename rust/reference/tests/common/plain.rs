@@ -160,6 +160,18 @@ pub fn find(records: &[(u64, u64)], used: u64, key: u64) -> Option<usize> {
     records[..used as usize].iter().position(|r| r.0 == key)
 }
 
+/// The value of the page's first entry of the key, with one counted for each
+/// entry that is compared on the way (02, job 8).
+pub fn search(page: &Page, key: u64, compared: &mut u32) -> Option<u64> {
+    for i in 0..page.count as usize {
+        *compared += 1;
+        if page.entries[i].0 == key {
+            return Some(page.entries[i].1);
+        }
+    }
+    None
+}
+
 /// Takes out the records at the places, which lie below `used`: the number left.
 pub fn take_out(records: &mut [(u64, u64)], used: u64, places: &[usize]) -> u64 {
     let stay: Vec<_> = (0..used as usize)
