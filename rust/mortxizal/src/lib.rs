@@ -33,11 +33,13 @@
 mod card;
 mod geometry;
 mod index;
+mod lookup;
 #[allow(unsafe_code)]
 pub mod raw;
 mod refused;
 
 pub use card::Card;
 pub use geometry::Geometry;
-pub use index::{Index, Lookup, Place};
+pub use index::Index;
+pub use lookup::{Lookup, Place};
 pub use refused::Refused;

@@ -213,17 +213,17 @@ fn refused(refused: Refused) -> Answer {
 
 fn lookup(lookup: Lookup) -> Answer {
     match lookup {
-        Lookup::None { reads } => Answer::None(reads),
         Lookup::Found {
             value,
             reads,
-            place: Place::Buffer,
-        } => Answer::Found(value, reads, 0),
-        Lookup::Found {
-            value,
-            reads,
-            place: Place::Batch(number),
-        } => Answer::Found(value, reads, number),
+            place,
+            ..
+        } => match place {
+            Place::Buffer => Answer::Found(value, reads, 0),
+            Place::Batch(number) => Answer::Found(value, reads, number),
+        },
+        Lookup::None { reads, .. } => Answer::None(reads),
+        other => panic!("{other:?}"),
     }
 }
 
