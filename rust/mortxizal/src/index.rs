@@ -19,9 +19,9 @@ use crate::{Geometry, Lookup, Refused};
 /// let mut index = Index::format(&mut memory, &mut flash, geometry)?;
 /// index.put(7, 70)?;
 /// index.flush(0)?;
-/// assert_eq!(index.get(7)?, Lookup::found(70, 1, Place::Batch(1)));
+/// assert_eq!(index.get(7)?, Lookup::found(70, 1, 1, Place::Batch(1)));
 /// index.del(7)?;
-/// assert_eq!(index.get(7)?, Lookup::none(0));
+/// assert_eq!(index.get(7)?, Lookup::none(0, 0));
 /// # Ok::<(), mortxizal::Refused>(())
 /// ```
 #[derive(Debug)]
@@ -112,7 +112,9 @@ impl<'a> Index<'a> {
     /// Looks the key up, in the buffer and then in the live batches whose
     /// filter passes, youngest first. A key that was put is found until it is
     /// deleted, or until the batch that it went to is pushed out by a flush or
-    /// [dropped](Index::drop_oldest).
+    /// [dropped](Index::drop_oldest). Beside the value the lookup tells what it
+    /// cost: flash pages [read](Lookup::reads), and entries
+    /// [compared](Lookup::comparisons) inside pages.
     ///
     /// ```
     /// # use mortxizal::{Geometry, Index};

@@ -29,7 +29,7 @@ fn flush_each(index: &mut Index, keys: &[u64]) {
 }
 
 fn in_batch(value: u64, number: u32) -> Result<Lookup, Refused> {
-    Ok(Lookup::found(value, 1, Place::Batch(number)))
+    Ok(Lookup::found(value, 1, 1, Place::Batch(number)))
 }
 
 #[test]
@@ -43,7 +43,7 @@ fn the_oldest_batch_goes() {
     // The list has one place, which key 5 has until its batch goes.
     assert_eq!(index.del(9), Err(Refused::ListFull));
     assert_eq!(index.drop_oldest(0), Ok(()));
-    assert_eq!(index.get(5), Ok(Lookup::none(0)));
+    assert_eq!(index.get(5), Ok(Lookup::none(0, 0)));
     assert_eq!(index.get(9), in_batch(90, 2));
     assert_eq!(index.view(0, 0, 1), Err(Refused::NotLive));
     assert_eq!(index.count(0), Ok(1));
@@ -63,7 +63,7 @@ fn a_flush_after_a_drop_pushes_nothing_out() {
     flush_each(&mut index, &[40]);
     assert_eq!((index.get(20), index.count(0)), (in_batch(200, 3), Ok(2)));
     flush_each(&mut index, &[5]);
-    assert_eq!(index.get(20), Ok(Lookup::none(0)));
+    assert_eq!(index.get(20), Ok(Lookup::none(0, 0)));
     assert_eq!((index.get(5), index.count(0)), (in_batch(50, 5), Ok(2)));
 }
 
@@ -81,6 +81,7 @@ fn the_answer_in_all_its_fields() {
             reads: 0,
             batch: 0,
             value: 0,
+            comparisons: 0,
         };
         assert_eq!(answer, expected);
     }
@@ -129,6 +130,6 @@ fn a_live_number_that_cannot_be() {
     }
     memory[44] = 0;
     let mut index = Index::attach(&mut memory, &mut flash);
-    assert_eq!(index.get(5), Ok(Lookup::none(0)));
+    assert_eq!(index.get(5), Ok(Lookup::none(0, 0)));
     assert_eq!(index.drop_oldest(0), Err(Refused::NoBatch));
 }

@@ -29,8 +29,8 @@ fn areas(geometry: Geometry) -> (Vec<u8>, Vec<u8>) {
     )
 }
 
-fn found(value: u64, reads: u32, place: Place) -> Result<Lookup, Refused> {
-    Ok(Lookup::found(value, reads, place))
+fn found(value: u64, reads: u32, comparisons: u32, place: Place) -> Result<Lookup, Refused> {
+    Ok(Lookup::found(value, reads, comparisons, place))
 }
 
 #[test]
@@ -41,14 +41,14 @@ fn worked_session() {
     assert_eq!(index.put(2, 20), Ok(0));
     assert_eq!(index.put(3, 30), Ok(0));
     assert_eq!(index.put(0, 40), Ok(1));
-    assert_eq!(index.get(2), found(20, 1, Place::Batch(1)));
+    assert_eq!(index.get(2), found(20, 1, 3, Place::Batch(1)));
     assert_eq!(index.del(2), Ok(()));
-    assert_eq!(index.get(2), Ok(Lookup::none(0)));
+    assert_eq!(index.get(2), Ok(Lookup::none(0, 0)));
     assert_eq!(index.del(3), Err(Refused::ListFull));
-    assert_eq!(index.get(3), found(30, 1, Place::Batch(1)));
-    assert_eq!(index.get(0), found(40, 0, Place::Buffer));
+    assert_eq!(index.get(3), found(30, 1, 4, Place::Batch(1)));
+    assert_eq!(index.get(0), found(40, 0, 1, Place::Buffer));
     assert_eq!(index.flush(0), Ok(1));
-    assert_eq!(index.get(0), found(40, 1, Place::Batch(2)));
+    assert_eq!(index.get(0), found(40, 1, 1, Place::Batch(2)));
     assert_eq!(index.count(0), Ok(4));
     let text = text_of(&index, 0);
     assert_eq!(text, Ok("(put 1 10)\n(put 3 30)\n(put 0 40)\n".into()));
@@ -194,8 +194,8 @@ fn an_index_is_taken_up_again() {
     let (first, second) = index.into_areas();
     let (mut memory, mut flash) = (first.to_vec(), second.to_vec());
     let index = Index::attach(&mut memory, &mut flash);
-    assert_eq!(index.get(5), found(50, 1, Place::Batch(1)));
-    assert_eq!(index.get(6), found(60, 0, Place::Buffer));
+    assert_eq!(index.get(5), found(50, 1, 2, Place::Batch(1)));
+    assert_eq!(index.get(6), found(60, 0, 1, Place::Buffer));
     assert_eq!(index.memory().len(), 144);
     assert_eq!(index.flash().len(), 128);
 }
@@ -251,8 +251,8 @@ fn value_0_is_no_position() {
     // A key that its page has, and one for which the full page would be flushed.
     assert_eq!(index.put(3, 0), Err(Refused::NoPosition));
     assert_eq!(index.put(4, 0), Err(Refused::NoPosition));
-    assert_eq!(index.get(3), found(1, 0, Place::Buffer));
-    assert_eq!(index.get(4), Ok(Lookup::none(0)));
+    assert_eq!(index.get(3), found(1, 0, 3, Place::Buffer));
+    assert_eq!(index.get(4), Ok(Lookup::none(0, 3)));
     memory[36] = 2;
     let mut index = Index::attach(&mut memory, &mut flash);
     assert_eq!(index.put(5, 1), Err(Refused::Overfull));
