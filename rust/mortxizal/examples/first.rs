@@ -28,7 +28,8 @@ fn lookup(found: Result<Lookup, Refused>) -> String {
             },
             _ => "none".into(),
         };
-        format!("{told}, reads {}", lookup.reads())
+        let (reads, comparisons) = (lookup.reads(), lookup.comparisons());
+        format!("{told}, reads {reads}, comparisons {comparisons}")
     }))
 }
 
@@ -95,7 +96,9 @@ pub fn run(output: &mut impl Write) -> Result<(), Box<dyn std::error::Error>> {
     }
     // The sound store has nothing at position 0.
     writeln!(output, "put 5: {}", pages(index.put(5, 0)))?;
-    for key in [2, 4] {
+    // The get of 2 compares the one entry of the buffer page, then two of the batch's
+    // page; that of 5 compares that one entry, and no filter passes.
+    for key in [2, 4, 5] {
         writeln!(output, "get {key}: {}", lookup(index.get(key)))?;
     }
     writeln!(output, "del 2: {}", pages(index.del(2).map(|()| 0)))?;
