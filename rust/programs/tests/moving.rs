@@ -50,8 +50,8 @@ fn text(index: &Index, partition: u32) -> Vec<u8> {
 fn value(answer: &str) -> Option<u64> {
     let words: Vec<&str> = answer.split(' ').collect();
     match words[..] {
-        ["(found", value, _] => Some(value.parse().unwrap()),
-        ["(none", _] => None,
+        ["(found", value, _, _] => Some(value.parse().unwrap()),
+        ["(none", _, _] => None,
         _ => panic!("{answer}"),
     }
 }
