@@ -43,6 +43,7 @@ impl Index for Engine {
             found: answer.status == raw::FOUND,
             value: answer.value,
             reads: answer.reads,
+            comparisons: answer.comparisons,
             batch: answer.batch,
         })
     }
