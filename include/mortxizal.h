@@ -1,13 +1,28 @@
 /*
  * mortxizal.h: the fingerprint index for C and C++.
  *
+ * A program asks at its start whether the library that it was linked with is the
+ * one that this header describes:
+ *
+ *     if (mx_interface() != MX_INTERFACE) {
+ *         fprintf(stderr, "mortxizal.h and libmortxizal.a do not fit\n");
+ *         return 1;
+ *     }
+ *
+ * MX_INTERFACE is the header's number and mx_interface() tells the library's. The
+ * number rises with every change to a layout or a signature below. A library of
+ * another number lays out its answers otherwise or takes other arguments, and the
+ * linker does not notice: the program would read bytes that mean something else,
+ * or that were never written. Libraries older than number 8 have no mx_interface,
+ * so that such a program does not link with them.
+ *
  * An index lives in two byte areas that the caller lends to every call: memory,
  * which holds the buffers, filters and lists of deleted keys, and flash, which
- * holds the batches. mx_figures alone is asked before there are any. The library
- * keeps nothing of its own, allocates nothing and never fails but by a refusal in
- * its answer. Link target/staticlib/libmortxizal.a, which `rt staticlib mortxizal`
- * proves and writes for x86-64 Linux; it needs the C library's memmove and memset
- * alone.
+ * holds the batches. mx_figures and mx_interface alone are asked without them. The
+ * library keeps nothing of its own, allocates nothing and never fails but by a
+ * refusal in its answer. Link target/staticlib/libmortxizal.a, which `rt staticlib
+ * mortxizal` proves and writes for x86-64 Linux; it needs the C library's memmove
+ * and memset alone.
  *
  * Every call is proved, on areas of any length and content, to answer and to
  * leave exactly what documents 01 and 02 say. A refused call has changed no
@@ -36,29 +51,37 @@
 extern "C" {
 #endif
 
+/* The number of this header, and that of the library. */
+#define MX_INTERFACE 8
+uint32_t mx_interface(void);
+
 /*
  * The answer of every call on the areas. A field that the table leaves out is 0.
  *
- *   call                       status       number    reads  batch     value
+ *   call                       status       number    reads  batch  value   comparisons
  *   mx_format, mx_del, mx_drop MX_DONE
  *   mx_put                     MX_DONE      pages written: 0, or `pages` where
  *                                           it flushed its key's partition
  *   mx_flush                   MX_DONE      pages written: `pages`
- *   mx_get, the key is there   MX_FOUND               reads  where     value
- *   mx_get, it is not          MX_NONE                reads
- *   mx_view, a buffer page     MX_DONE      bytes                      begins
- *   mx_view, a page of flash   MX_DONE      bytes     1      1         begins
+ *   mx_get, the key is there   MX_FOUND               reads  where  value   comparisons
+ *   mx_get, it is not          MX_NONE                reads                 comparisons
+ *   mx_view, a buffer page     MX_DONE      bytes                   begins
+ *   mx_view, a page of flash   MX_DONE      bytes     1      1      begins
  *   mx_count                   MX_DONE      entries
- *   mx_text                    MX_DONE                                 bytes
+ *   mx_text                    MX_DONE                              bytes
  *   any of them                MX_REFUSED   refusal   reads
+ *
+ * It takes 32 bytes, of which the last 4 are padding: answers are compared field
+ * by field.
  */
 typedef struct {
-    uint32_t status; /* MX_DONE, MX_FOUND, MX_NONE or MX_REFUSED */
-    uint32_t number; /* done: pages written; refused: the refusal's number; view: bytes of the page;
-                        count: entries */
-    uint32_t reads;  /* flash pages read, also before a refusal */
-    uint32_t batch;  /* found: 0 in the buffer, else the batch's number; view: 0 in memory, 1 in flash */
-    uint64_t value;  /* found: the value; view: where the page begins in that area; text: its bytes */
+    uint32_t status;      /* MX_DONE, MX_FOUND, MX_NONE or MX_REFUSED */
+    uint32_t number;      /* done: pages written; refused: the refusal's number; view: bytes of the page;
+                             count: entries */
+    uint32_t reads;       /* flash pages read, also before a refusal */
+    uint32_t batch;       /* found: 0 in the buffer, else the batch's number; view: 0 in memory, 1 in flash */
+    uint64_t value;       /* found: the value; view: where the page begins in that area; text: its bytes */
+    uint32_t comparisons; /* found, none: entries compared with the key inside pages */
 } mx_answer;
 
 /* What mx_figures tells of a table that is yet to be. Refused, the four figures are 0. */
@@ -77,13 +100,13 @@ enum { MX_DONE = 0, MX_FOUND = 1, MX_NONE = 2, MX_REFUSED = 3 };
 /*
  * Refusals: the number where the status is MX_REFUSED. Each is given when its
  * condition holds and no earlier one of its call does, and at no other time.
- * mx_figures checks 1 alone; `all` below are all calls but this one. mx_format
+ * mx_figures checks 1 alone; `all` below are the calls on the areas. mx_format
  * checks 1, 2, 3. The others check 2 (below 32 bytes), 11, 2 (the need), 3, 4, 12
  * and then their own: mx_put 16, 13; mx_get 13 as it reads; mx_del 14; mx_flush
  * 15, 16, 13; mx_view 17, 13; mx_text 13, 22; mx_drop 23, 13. Only mx_put checks
  * 21, behind 3 and before 12. Where mx_put, mx_del, mx_flush or mx_drop would end
  * with a total that cannot be, 12 comes last. Only 13 tells reads above 0, and not
- * that of mx_text.
+ * that of mx_text; none tells comparisons.
  */
 enum {
     /* from the arguments */
@@ -189,8 +212,16 @@ mx_answer mx_put(uint8_t *memory, size_t memory_len, uint8_t *flash, size_t flas
  * or until the batch that it went to is pushed out by a flush or dropped by
  * mx_drop.
  *
- * Answers MX_FOUND with the value, the reads and where it was, or MX_NONE with
- * the reads, or refuses with 2, 3, 11, 12 or 13.
+ * The comparisons tell the work inside pages: the entries that were compared with
+ * the key in its buffer page and in each page read. A page costs i + 1 where the
+ * key is its entry i, counted from 0, and its count of entries where the key is not
+ * among them. The list of deleted keys costs none: a key in it has 0 reads and 0
+ * comparisons. It is proved, on areas of any length and content, that no page costs
+ * more than the E = page / 16 - 1 entries that it has room for, so that a get has
+ * at most E * (reads + 1) comparisons.
+ *
+ * Answers MX_FOUND with the value, the reads, the comparisons and where it was, or
+ * MX_NONE with the reads and the comparisons, or refuses with 2, 3, 11, 12 or 13.
  */
 mx_answer mx_get(const uint8_t *memory, size_t memory_len, const uint8_t *flash, size_t flash_len,
                  uint64_t key);

@@ -17,15 +17,14 @@ fn done(answer: Answer) -> Done {
 
 impl Index for Engine {
     fn format(memory: &mut [u8], flash: &[u8], g: Geometry) -> Done {
-        let geometry = mortxizal::Geometry {
-            parts: g.parts,
-            page: g.page,
-            pages: g.pages,
-            kept: g.kept,
-            bits: g.bits,
-            hashes: g.hashes,
-            list: g.list,
-        };
+        let geometry = mortxizal::Geometry::default()
+            .with_parts(g.parts)
+            .with_page(g.page)
+            .with_pages(g.pages)
+            .with_kept(g.kept)
+            .with_bits(g.bits)
+            .with_hashes(g.hashes)
+            .with_list(g.list);
         done(raw::format(memory, flash, geometry))
     }
 
@@ -44,6 +43,7 @@ impl Index for Engine {
             found: answer.status == raw::FOUND,
             value: answer.value,
             reads: answer.reads,
+            comparisons: answer.comparisons,
             batch: answer.batch,
         })
     }

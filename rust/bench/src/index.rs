@@ -9,7 +9,10 @@ use reference::{Geometry, Lookup, Place, Refusal};
 pub struct Got {
     pub found: bool,
     pub value: u64,
+    /// Flash pages read.
     pub reads: u32,
+    /// Entries compared inside pages.
+    pub comparisons: u32,
     /// The batch by number, 0 for the buffer.
     pub batch: u32,
 }
@@ -79,20 +82,23 @@ impl Index for RustIndex {
             Ok(Lookup::Found {
                 value,
                 reads,
+                comparisons,
                 place,
             }) => Ok(Got {
                 found: true,
                 value,
                 reads,
+                comparisons,
                 batch: match place {
                     Place::Buffer => 0,
                     Place::Batch(number) => number,
                 },
             }),
-            Ok(Lookup::None { reads }) => Ok(Got {
+            Ok(Lookup::None { reads, comparisons }) => Ok(Got {
                 found: false,
                 value: 0,
                 reads,
+                comparisons,
                 batch: 0,
             }),
             Err(refusal) => Err(refusal.number()),

@@ -205,7 +205,7 @@ fn tell(sum: u64, got: Result<Got, u32>) -> u64 {
         Ok(got) => sum
             .rotate_left(1)
             .wrapping_add(got.value)
-            .wrapping_add(u64::from(got.reads)),
+            .wrapping_add(u64::from(got.reads) << 32 | u64::from(got.comparisons)),
         Err(number) => panic!("refused with {number}"),
     }
 }

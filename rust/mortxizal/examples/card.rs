@@ -10,27 +10,21 @@ const PUTS: u32 = 1_000_000;
 /// Cards that may be ordered, with the numbers that their tables would have.
 fn offers() -> [(&'static str, Geometry); 4] {
     let middle = Geometry::default();
-    let small = Geometry {
-        parts: 0,
-        page: 64,
-        pages: 1,
-        kept: 2,
-        bits: 64,
-        hashes: 3,
-        list: 1,
-    };
-    let largest = Geometry {
-        parts: 8,
-        pages: 64,
-        kept: 32,
-        list: 1024,
-        ..middle
-    };
+    let small = Geometry::default()
+        .with_parts(0)
+        .with_page(64)
+        .with_pages(1)
+        .with_kept(2)
+        .with_bits(64)
+        .with_hashes(3)
+        .with_list(1);
+    let largest = middle
+        .with_parts(8)
+        .with_pages(64)
+        .with_kept(32)
+        .with_list(1024);
     // At most 32 batches are kept.
-    let none_such = Geometry {
-        kept: 33,
-        ..largest
-    };
+    let none_such = largest.with_kept(33);
     [
         ("small", small),
         ("middle", middle),

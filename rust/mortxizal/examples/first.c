@@ -32,10 +32,10 @@ static void show(const char *call, mx_answer a)
         } else {
             printf("batch %" PRIu32, a.batch);
         }
-        printf(", reads %" PRIu32 "\n", a.reads);
+        printf(", reads %" PRIu32 ", comparisons %" PRIu32 "\n", a.reads, a.comparisons);
         break;
     case MX_NONE:
-        printf("none, reads %" PRIu32 "\n", a.reads);
+        printf("none, reads %" PRIu32 ", comparisons %" PRIu32 "\n", a.reads, a.comparisons);
         break;
     default:
         printf("refused with %" PRIu32 ", reads %" PRIu32 "\n", a.number, a.reads);
@@ -95,6 +95,10 @@ static void show_page(uint32_t flush)
 
 int main(void)
 {
+    if (mx_interface() != MX_INTERFACE) { /* another library's answers mean something else */
+        fprintf(stderr, "mortxizal.h has interface %d, the library %" PRIu32 "\n", MX_INTERFACE, mx_interface());
+        return 1;
+    }
     printf("%zu bytes of memory, %zu of flash\n", sizeof memory, sizeof flash);
     show("get 1", get(1));
     show("format", mx_format(memory, sizeof memory, flash, sizeof flash, S, PAGE, PAGES, KEPT, BITS, HASHES, LIST));
@@ -103,8 +107,9 @@ int main(void)
     show("put 3", put(3, 30));
     show("put 4", put(4, 40)); /* the page is full: a flush, then the put */
     show("put 5", put(5, 0)); /* the sound store has nothing at position 0 */
-    show("get 2", get(2));
+    show("get 2", get(2)); /* compares the one entry of the buffer page, then two of the batch's page */
     show("get 4", get(4));
+    show("get 5", get(5)); /* compares that one entry; no filter passes */
     show("del 2", del(2));
     show("get 2", get(2));
     show("del 3", del(3)); /* the list has one place, which key 2 has */

@@ -6,33 +6,30 @@ use mortxizal::{Geometry, Index, Lookup, Place, Refused};
 
 /// One partition, pages of 64 bytes with three entries, one page in a batch,
 /// two batches kept, one place for a deleted key.
-fn geometry() -> Geometry {
-    Geometry {
-        parts: 0,
-        page: 64,
-        pages: 1,
-        kept: 2,
-        bits: 64,
-        list: 1,
-        ..Geometry::default()
-    }
-}
+const GEOMETRY: Geometry = Geometry::DEFAULT
+    .with_parts(0)
+    .with_page(64)
+    .with_pages(1)
+    .with_kept(2)
+    .with_bits(64)
+    .with_hashes(3)
+    .with_list(1);
 
 fn pages(written: Result<u32, Refused>) -> String {
     tell(written.map(|pages| format!("done, pages written {pages}")))
 }
 
 fn lookup(found: Result<Lookup, Refused>) -> String {
-    tell(found.map(|lookup| match lookup {
-        Lookup::None { reads } => format!("none, reads {reads}"),
-        Lookup::Found {
-            value,
-            reads,
-            place,
-        } => match place {
-            Place::Buffer => format!("{value} from the buffer, reads {reads}"),
-            Place::Batch(number) => format!("{value} from batch {number}, reads {reads}"),
-        },
+    tell(found.map(|lookup| {
+        let told = match lookup {
+            Lookup::Found { value, place, .. } => match place {
+                Place::Buffer => format!("{value} from the buffer"),
+                Place::Batch(number) => format!("{value} from batch {number}"),
+            },
+            _ => "none".into(),
+        };
+        let (reads, comparisons) = (lookup.reads(), lookup.comparisons());
+        format!("{told}, reads {reads}, comparisons {comparisons}")
     }))
 }
 
@@ -83,16 +80,15 @@ fn write_drops(output: &mut impl Write, index: &mut Index) -> io::Result<()> {
 
 /// Writes what `first.c` writes.
 pub fn run(output: &mut impl Write) -> Result<(), Box<dyn std::error::Error>> {
-    let geometry = geometry();
-    let mut memory = vec![0; geometry.memory_need()?];
-    let mut flash = vec![0; geometry.flash_need()?];
+    let mut memory = vec![0; GEOMETRY.memory_need()?];
+    let mut flash = vec![0; GEOMETRY.flash_need()?];
     let (m, f) = (memory.len(), flash.len());
     writeln!(output, "{m} bytes of memory, {f} of flash")?;
 
     let index = Index::attach(&mut memory, &mut flash);
     writeln!(output, "get 1: {}", lookup(index.get(1)))?;
 
-    let mut index = Index::format(&mut memory, &mut flash, geometry)?;
+    let mut index = Index::format(&mut memory, &mut flash, GEOMETRY)?;
     writeln!(output, "format: {}", pages(Ok(0)))?;
     // With the fourth put the page is full: a flush, then the put.
     for key in 1..=4 {
@@ -100,7 +96,9 @@ pub fn run(output: &mut impl Write) -> Result<(), Box<dyn std::error::Error>> {
     }
     // The sound store has nothing at position 0.
     writeln!(output, "put 5: {}", pages(index.put(5, 0)))?;
-    for key in [2, 4] {
+    // The get of 2 compares the one entry of the buffer page, then two of the batch's
+    // page; that of 5 compares that one entry, and no filter passes.
+    for key in [2, 4, 5] {
         writeln!(output, "get {key}: {}", lookup(index.get(key)))?;
     }
     writeln!(output, "del 2: {}", pages(index.del(2).map(|()| 0)))?;

@@ -5,15 +5,21 @@ use crate::{Card, Refused};
 
 /// The seven numbers that a table is formatted with.
 ///
+/// A later version may have more of them. So a geometry is made from the default
+/// one, by saying what differs; this may be done in a constant.
+///
 /// ```
 /// use mortxizal::Geometry;
 ///
-/// let geometry = Geometry { kept: 8, ..Geometry::default() };
-/// let mut memory = vec![0; geometry.memory_need()?];
-/// let mut flash = vec![0; geometry.flash_need()?];
+/// const GEOMETRY: Geometry = Geometry::DEFAULT.with_kept(8).with_list(100);
+///
+/// assert_eq!((GEOMETRY.page, GEOMETRY.kept, GEOMETRY.list), (4096, 8, 100));
+/// let mut memory = vec![0; GEOMETRY.memory_need()?];
+/// let mut flash = vec![0; GEOMETRY.flash_need()?];
 /// # Ok::<(), mortxizal::Refused>(())
 /// ```
 #[derive(Clone, Copy, Debug, PartialEq, Eq, Hash)]
+#[non_exhaustive]
 pub struct Geometry {
     /// s: the table has 2^s partitions, by the top s bits of a key. 0 to 8.
     pub parts: u32,
@@ -32,23 +38,68 @@ pub struct Geometry {
 }
 
 impl Default for Geometry {
-    /// 16 partitions of 16 batches of 16 pages, with 16 filter bits to an
-    /// entry: room for 1,044,480 entries in 16 MiB of flash, over 3.1 MiB of
-    /// memory.
+    /// [`Geometry::DEFAULT`].
     fn default() -> Self {
-        Geometry {
-            parts: 4,
-            page: 4096,
-            pages: 16,
-            kept: 16,
-            bits: 65536,
-            hashes: 8,
-            list: 256,
-        }
+        Geometry::DEFAULT
     }
 }
 
 impl Geometry {
+    /// 16 partitions of 16 batches of 16 pages, with 16 filter bits to an
+    /// entry: room for 1,044,480 entries in 16 MiB of flash, over 3.1 MiB of
+    /// memory.
+    pub const DEFAULT: Geometry = Geometry {
+        parts: 4,
+        page: 4096,
+        pages: 16,
+        kept: 16,
+        bits: 65536,
+        hashes: 8,
+        list: 256,
+    };
+
+    /// The same with 2^s partitions, for this s.
+    #[must_use]
+    pub const fn with_parts(self, parts: u32) -> Geometry {
+        Geometry { parts, ..self }
+    }
+
+    /// The same with pages of so many bytes.
+    #[must_use]
+    pub const fn with_page(self, page: u32) -> Geometry {
+        Geometry { page, ..self }
+    }
+
+    /// The same with so many pages in a batch.
+    #[must_use]
+    pub const fn with_pages(self, pages: u32) -> Geometry {
+        Geometry { pages, ..self }
+    }
+
+    /// The same with so many batches kept per partition.
+    #[must_use]
+    pub const fn with_kept(self, kept: u32) -> Geometry {
+        Geometry { kept, ..self }
+    }
+
+    /// The same with so many bits in the filter of a batch.
+    #[must_use]
+    pub const fn with_bits(self, bits: u32) -> Geometry {
+        Geometry { bits, ..self }
+    }
+
+    /// The same with so many bits that a key sets in a filter.
+    #[must_use]
+    pub const fn with_hashes(self, hashes: u32) -> Geometry {
+        Geometry { hashes, ..self }
+    }
+
+    /// The same with so many places for deleted keys per partition.
+    #[must_use]
+    pub const fn with_list(self, list: u32) -> Geometry {
+        Geometry { list, ..self }
+    }
+
     /// What a table of this geometry carries: the bytes of its areas, the most
     /// flushes that so many puts can cause, and the first put at which an earlier
     /// key can be lost. It is told without any area, before a card is bought.
@@ -62,7 +113,7 @@ impl Geometry {
     /// assert_eq!((card.memory, card.flash), (3_211_552, 16_777_216));
     /// assert_eq!((card.flushes, card.first_lost), (3_921, 4_336));
     ///
-    /// let geometry = Geometry { kept: 33, ..Geometry::default() };
+    /// let geometry = Geometry::default().with_kept(33);
     /// assert_eq!(geometry.figures(1_000_000), Err(Refused::Geometry));
     /// # Ok::<(), mortxizal::Refused>(())
     /// ```
@@ -76,7 +127,7 @@ impl Geometry {
     /// use mortxizal::Geometry;
     ///
     /// assert!(Geometry::default().is_allowed());
-    /// assert!(!Geometry { pages: 3, ..Geometry::default() }.is_allowed());
+    /// assert!(!Geometry::default().with_pages(3).is_allowed());
     /// ```
     pub fn is_allowed(&self) -> bool {
         self.figures(0).is_ok()

@@ -1,54 +1,7 @@
 //! An index over two borrowed areas.
 
 use crate::raw::{self, Answer};
-use crate::{Geometry, Refused};
-
-/// Where a key was found.
-#[derive(Clone, Copy, Debug, PartialEq, Eq, Hash)]
-pub enum Place {
-    /// In the buffer.
-    Buffer,
-    /// In the batch with this flush number.
-    Batch(u32),
-}
-
-/// What a get found.
-#[derive(Clone, Copy, Debug, PartialEq, Eq, Hash)]
-pub enum Lookup {
-    /// The key has this value.
-    Found {
-        /// The key's value.
-        value: u64,
-        /// The flash pages read.
-        reads: u32,
-        /// Where the key was.
-        place: Place,
-    },
-    /// The key is not there.
-    None {
-        /// The flash pages read.
-        reads: u32,
-    },
-}
-
-impl Lookup {
-    /// The key's value, if it has one.
-    #[inline]
-    pub fn value(self) -> Option<u64> {
-        match self {
-            Lookup::Found { value, .. } => Some(value),
-            Lookup::None { .. } => None,
-        }
-    }
-
-    /// The flash pages read.
-    #[inline]
-    pub fn reads(self) -> u32 {
-        match self {
-            Lookup::Found { reads, .. } | Lookup::None { reads } => reads,
-        }
-    }
-}
+use crate::{Geometry, Lookup, Refused};
 
 /// A table in two borrowed areas, memory and flash.
 ///
@@ -59,17 +12,16 @@ impl Lookup {
 /// ```
 /// use mortxizal::{Geometry, Index, Lookup, Place};
 ///
-/// let geometry = Geometry { parts: 1, ..Geometry::default() };
+/// let geometry = Geometry::default().with_parts(1);
 /// let mut memory = vec![0; geometry.memory_need()?];
 /// let mut flash = vec![0; geometry.flash_need()?];
 ///
 /// let mut index = Index::format(&mut memory, &mut flash, geometry)?;
 /// index.put(7, 70)?;
 /// index.flush(0)?;
-/// let found = Lookup::Found { value: 70, reads: 1, place: Place::Batch(1) };
-/// assert_eq!(index.get(7)?, found);
+/// assert_eq!(index.get(7)?, Lookup::found(70, 1, 1, Place::Batch(1)));
 /// index.del(7)?;
-/// assert_eq!(index.get(7)?, Lookup::None { reads: 0 });
+/// assert_eq!(index.get(7)?, Lookup::none(0, 0));
 /// # Ok::<(), mortxizal::Refused>(())
 /// ```
 #[derive(Debug)]
@@ -160,7 +112,9 @@ impl<'a> Index<'a> {
     /// Looks the key up, in the buffer and then in the live batches whose
     /// filter passes, youngest first. A key that was put is found until it is
     /// deleted, or until the batch that it went to is pushed out by a flush or
-    /// [dropped](Index::drop_oldest).
+    /// [dropped](Index::drop_oldest). Beside the value the lookup tells what it
+    /// cost: flash pages [read](Lookup::reads), and entries
+    /// [compared](Lookup::comparisons) inside pages.
     ///
     /// ```
     /// # use mortxizal::{Geometry, Index};
@@ -175,20 +129,8 @@ impl<'a> Index<'a> {
     /// ```
     #[inline]
     pub fn get(&self, key: u64) -> Result<Lookup, Refused> {
-        let answer = accepted(raw::get(self.memory, self.flash, key))?;
-        let reads = answer.reads;
-        if answer.status == raw::NONE {
-            return Ok(Lookup::None { reads });
-        }
-        let place = match answer.batch {
-            0 => Place::Buffer,
-            number => Place::Batch(number),
-        };
-        Ok(Lookup::Found {
-            value: answer.value,
-            reads,
-            place,
-        })
+        let answer = raw::get(self.memory, self.flash, key);
+        Ok(Lookup::of(accepted(answer)?))
     }
 
     /// Deletes the key: it is found no more until it is put again. A key that
@@ -217,7 +159,7 @@ impl<'a> Index<'a> {
     ///
     /// ```
     /// # use mortxizal::{Geometry, Index, Refused};
-    /// # let geometry = Geometry { parts: 1, ..Geometry::default() };
+    /// # let geometry = Geometry::default().with_parts(1);
     /// # let mut memory = vec![0; geometry.memory_need()?];
     /// # let mut flash = vec![0; geometry.flash_need()?];
     /// # let mut index = Index::format(&mut memory, &mut flash, geometry)?;
@@ -248,7 +190,7 @@ impl<'a> Index<'a> {
     ///
     /// ```
     /// # use mortxizal::{Geometry, Index, Refused};
-    /// # let geometry = Geometry { parts: 1, ..Geometry::default() };
+    /// # let geometry = Geometry::default().with_parts(1);
     /// # let mut memory = vec![0; geometry.memory_need()?];
     /// # let mut flash = vec![0; geometry.flash_need()?];
     /// # let mut index = Index::format(&mut memory, &mut flash, geometry)?;
@@ -285,7 +227,7 @@ impl<'a> Index<'a> {
     ///
     /// ```
     /// # use mortxizal::{Geometry, Index, Refused};
-    /// # let geometry = Geometry { parts: 1, ..Geometry::default() };
+    /// # let geometry = Geometry::default().with_parts(1);
     /// # let mut memory = vec![0; geometry.memory_need()?];
     /// # let mut flash = vec![0; geometry.flash_need()?];
     /// # let mut index = Index::format(&mut memory, &mut flash, geometry)?;

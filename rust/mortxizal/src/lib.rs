@@ -10,7 +10,9 @@
 //! says, on areas of any length and any content: a damaged table refuses a call
 //! or answers from what it holds, and never does anything undefined. This crate
 //! puts slices and results around it. `rt staticlib mortxizal` has to be run
-//! once before it is built; the library is for x86-64 Linux.
+//! before it is built, and again when it has changed: [`raw::interface`] tells
+//! the library's interface, which has to be [`raw::INTERFACE`]. The library is for
+//! x86-64 Linux.
 //!
 //! ```
 //! use mortxizal::{Geometry, Index};
@@ -33,11 +35,13 @@
 mod card;
 mod geometry;
 mod index;
+mod lookup;
 #[allow(unsafe_code)]
 pub mod raw;
 mod refused;
 
 pub use card::Card;
 pub use geometry::Geometry;
-pub use index::{Index, Lookup, Place};
+pub use index::Index;
+pub use lookup::{Lookup, Place};
 pub use refused::Refused;

@@ -26,6 +26,8 @@ pub struct Answer {
     pub batch: u32,
     /// Found: the value. View: where the page begins in that area. Text: its bytes.
     pub value: u64,
+    /// Found, none: entries compared with the key inside pages.
+    pub comparisons: u32,
 }
 
 /// The figures of a geometry, as `mx_card` of `include/mortxizal.h`.
@@ -45,6 +47,10 @@ pub struct Card {
     /// The first put at which an earlier key can be lost.
     pub first_lost: u64,
 }
+
+/// The number of the interface that this module is written for, which is
+/// `MX_INTERFACE` of `include/mortxizal.h`.
+pub const INTERFACE: u32 = 8;
 
 /// The status of an accepted format, put, del, flush, view, count, text or drop,
 /// and of figures that are told.
@@ -144,6 +150,7 @@ mod c {
             list: u32,
             puts: u32,
         ) -> Card;
+        pub fn mx_interface() -> u32;
     }
 }
 
@@ -248,4 +255,13 @@ pub fn figures(geometry: Geometry, puts: u32) -> Card {
             puts,
         )
     }
+}
+
+/// Tells the number of the library's interface. A library of another one than
+/// [`INTERFACE`] lays out its answers otherwise or takes other arguments, so that
+/// no other function of this crate may be used with it.
+#[inline]
+pub fn interface() -> u32 {
+    // SAFETY: it takes no argument and reads nothing.
+    unsafe { c::mx_interface() }
 }

@@ -7,6 +7,9 @@ use crate::raw;
 
 /// Why a call was refused. A refused call has changed no byte of any area.
 ///
+/// A later version may refuse for more reasons, so a match has an arm for any
+/// other one.
+///
 /// ```
 /// use mortxizal::{Index, Refused};
 ///
@@ -17,6 +20,7 @@ use crate::raw;
 /// assert_eq!(refused.to_string(), "memory is shorter than the table needs (refusal 2)");
 /// ```
 #[derive(Clone, Copy, Debug, PartialEq, Eq, Hash)]
+#[non_exhaustive]
 pub enum Refused {
     /// 1: a number of the geometry is outside its range (format, and what is asked
     /// of a [`Geometry`](crate::Geometry) alone: figures and needs).

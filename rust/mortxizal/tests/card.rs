@@ -17,8 +17,8 @@ use reference::Geometry;
 fn call(call: Call, memory: &mut [u8], flash: &mut [u8]) -> Answer {
     let answer = call_raw(call, memory, flash);
     match answer.status {
-        raw::FOUND => Answer::Found(answer.value, answer.reads, answer.batch),
-        raw::NONE => Answer::None(answer.reads),
+        raw::FOUND => Answer::Found(answer.value, answer.reads, answer.comparisons, answer.batch),
+        raw::NONE => Answer::None(answer.reads, answer.comparisons),
         raw::REFUSED => Answer::Refused(answer.number, answer.reads),
         _ => Answer::Done(answer.number),
     }

@@ -3,15 +3,14 @@
 use mortxizal::{raw, Geometry, Index, Lookup, Place, Refused};
 
 /// The geometry of the worked session of document 01: two batches are kept.
-const G: Geometry = Geometry {
-    parts: 0,
-    page: 64,
-    pages: 1,
-    kept: 2,
-    bits: 64,
-    hashes: 3,
-    list: 1,
-};
+const G: Geometry = Geometry::DEFAULT
+    .with_parts(0)
+    .with_page(64)
+    .with_pages(1)
+    .with_kept(2)
+    .with_bits(64)
+    .with_hashes(3)
+    .with_list(1);
 
 fn areas(geometry: Geometry) -> (Vec<u8>, Vec<u8>) {
     let memory = geometry.memory_need().unwrap();
@@ -30,11 +29,7 @@ fn flush_each(index: &mut Index, keys: &[u64]) {
 }
 
 fn in_batch(value: u64, number: u32) -> Result<Lookup, Refused> {
-    Ok(Lookup::Found {
-        value,
-        reads: 1,
-        place: Place::Batch(number),
-    })
+    Ok(Lookup::found(value, 1, 1, Place::Batch(number)))
 }
 
 #[test]
@@ -48,7 +43,7 @@ fn the_oldest_batch_goes() {
     // The list has one place, which key 5 has until its batch goes.
     assert_eq!(index.del(9), Err(Refused::ListFull));
     assert_eq!(index.drop_oldest(0), Ok(()));
-    assert_eq!(index.get(5), Ok(Lookup::None { reads: 0 }));
+    assert_eq!(index.get(5), Ok(Lookup::none(0, 0)));
     assert_eq!(index.get(9), in_batch(90, 2));
     assert_eq!(index.view(0, 0, 1), Err(Refused::NotLive));
     assert_eq!(index.count(0), Ok(1));
@@ -68,7 +63,7 @@ fn a_flush_after_a_drop_pushes_nothing_out() {
     flush_each(&mut index, &[40]);
     assert_eq!((index.get(20), index.count(0)), (in_batch(200, 3), Ok(2)));
     flush_each(&mut index, &[5]);
-    assert_eq!(index.get(20), Ok(Lookup::None { reads: 0 }));
+    assert_eq!(index.get(20), Ok(Lookup::none(0, 0)));
     assert_eq!((index.get(5), index.count(0)), (in_batch(50, 5), Ok(2)));
 }
 
@@ -86,6 +81,7 @@ fn the_answer_in_all_its_fields() {
             reads: 0,
             batch: 0,
             value: 0,
+            comparisons: 0,
         };
         assert_eq!(answer, expected);
     }
@@ -94,7 +90,7 @@ fn the_answer_in_all_its_fields() {
 
 #[test]
 fn a_damaged_batch_is_not_dropped() {
-    let g = Geometry { pages: 2, ..G };
+    let g = G.with_pages(2);
     let (mut memory, mut flash) = areas(g);
     let mut index = Index::format(&mut memory, &mut flash, g).unwrap();
     flush_each(&mut index, &[1, 2]);
@@ -134,6 +130,6 @@ fn a_live_number_that_cannot_be() {
     }
     memory[44] = 0;
     let mut index = Index::attach(&mut memory, &mut flash);
-    assert_eq!(index.get(5), Ok(Lookup::None { reads: 0 }));
+    assert_eq!(index.get(5), Ok(Lookup::none(0, 0)));
     assert_eq!(index.drop_oldest(0), Err(Refused::NoBatch));
 }

@@ -1,8 +1,11 @@
 //! `include/mortxizal.h` with the archive, from C and from C++.
 
 use std::env;
+use std::mem::{offset_of, size_of};
 use std::path::{Path, PathBuf};
 use std::process::Command;
+
+use mortxizal::raw;
 
 const HERE: &str = env!("CARGO_MANIFEST_DIR");
 
@@ -71,10 +74,27 @@ fn cards_in_cpp() {
     assert_eq!(run(&program), expected("card"));
 }
 
+/// The sizes are checked as it is compiled. What it writes are the interface's
+/// numbers, of the header and of the library.
 #[test]
-fn sizes_in_c_and_cpp() {
-    run(&compile(Language::C, "tests/layout.c", "layout_c"));
-    run(&compile(Language::Cpp, "tests/layout.c", "layout_cpp"));
+fn sizes_and_interface_in_c_and_cpp() {
+    let c = compile(Language::C, "tests/layout.c", "layout_c");
+    let cpp = compile(Language::Cpp, "tests/layout.c", "layout_cpp");
+    let both = format!("{0} {0}\n", raw::INTERFACE);
+    assert_eq!((run(&c), run(&cpp)), (both.clone(), both));
+}
+
+#[test]
+fn sizes_and_interface_in_rust() {
+    assert_eq!(raw::interface(), raw::INTERFACE);
+    assert_eq!(size_of::<raw::Answer>(), 32);
+    assert_eq!(offset_of!(raw::Answer, status), 0);
+    assert_eq!(offset_of!(raw::Answer, number), 4);
+    assert_eq!(offset_of!(raw::Answer, reads), 8);
+    assert_eq!(offset_of!(raw::Answer, batch), 12);
+    assert_eq!(offset_of!(raw::Answer, value), 16);
+    assert_eq!(offset_of!(raw::Answer, comparisons), 24);
+    assert_eq!(size_of::<raw::Card>(), 40);
 }
 
 #[path = "../examples/first.rs"]

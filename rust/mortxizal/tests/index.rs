@@ -11,15 +11,14 @@ const G: Geometry = geometry([0, 64, 1, 2, 64, 3, 1]);
 const LARGEST: Geometry = geometry([8, 4096, 64, 32, 65536, 8, 1024]);
 
 const fn geometry(n: [u32; 7]) -> Geometry {
-    Geometry {
-        parts: n[0],
-        page: n[1],
-        pages: n[2],
-        kept: n[3],
-        bits: n[4],
-        hashes: n[5],
-        list: n[6],
-    }
+    Geometry::DEFAULT
+        .with_parts(n[0])
+        .with_page(n[1])
+        .with_pages(n[2])
+        .with_kept(n[3])
+        .with_bits(n[4])
+        .with_hashes(n[5])
+        .with_list(n[6])
 }
 
 fn areas(geometry: Geometry) -> (Vec<u8>, Vec<u8>) {
@@ -30,12 +29,8 @@ fn areas(geometry: Geometry) -> (Vec<u8>, Vec<u8>) {
     )
 }
 
-fn found(value: u64, reads: u32, place: Place) -> Result<Lookup, Refused> {
-    Ok(Lookup::Found {
-        value,
-        reads,
-        place,
-    })
+fn found(value: u64, reads: u32, comparisons: u32, place: Place) -> Result<Lookup, Refused> {
+    Ok(Lookup::found(value, reads, comparisons, place))
 }
 
 #[test]
@@ -46,14 +41,14 @@ fn worked_session() {
     assert_eq!(index.put(2, 20), Ok(0));
     assert_eq!(index.put(3, 30), Ok(0));
     assert_eq!(index.put(0, 40), Ok(1));
-    assert_eq!(index.get(2), found(20, 1, Place::Batch(1)));
+    assert_eq!(index.get(2), found(20, 1, 3, Place::Batch(1)));
     assert_eq!(index.del(2), Ok(()));
-    assert_eq!(index.get(2), Ok(Lookup::None { reads: 0 }));
+    assert_eq!(index.get(2), Ok(Lookup::none(0, 0)));
     assert_eq!(index.del(3), Err(Refused::ListFull));
-    assert_eq!(index.get(3), found(30, 1, Place::Batch(1)));
-    assert_eq!(index.get(0), found(40, 0, Place::Buffer));
+    assert_eq!(index.get(3), found(30, 1, 4, Place::Batch(1)));
+    assert_eq!(index.get(0), found(40, 0, 1, Place::Buffer));
     assert_eq!(index.flush(0), Ok(1));
-    assert_eq!(index.get(0), found(40, 1, Place::Batch(2)));
+    assert_eq!(index.get(0), found(40, 1, 1, Place::Batch(2)));
     assert_eq!(index.count(0), Ok(4));
     let text = text_of(&index, 0);
     assert_eq!(text, Ok("(put 1 10)\n(put 3 30)\n(put 0 40)\n".into()));
@@ -95,7 +90,7 @@ fn a_text_area_of_any_length() {
 
 #[test]
 fn a_text_of_a_damaged_table() {
-    let g = Geometry { pages: 2, ..G };
+    let g = G.with_pages(2);
     let (mut memory, mut flash) = areas(g);
     let mut index = Index::format(&mut memory, &mut flash, g).unwrap();
     index.put(1, 10).unwrap();
@@ -167,7 +162,7 @@ fn a_total_that_cannot_be() {
 
 #[test]
 fn a_batch_that_is_pushed_out_is_looked_at() {
-    let g = Geometry { pages: 2, ..G };
+    let g = G.with_pages(2);
     let (mut memory, mut flash) = areas(g);
     let mut index = Index::format(&mut memory, &mut flash, g).unwrap();
     for key in 1..=2 {
@@ -199,8 +194,8 @@ fn an_index_is_taken_up_again() {
     let (first, second) = index.into_areas();
     let (mut memory, mut flash) = (first.to_vec(), second.to_vec());
     let index = Index::attach(&mut memory, &mut flash);
-    assert_eq!(index.get(5), found(50, 1, Place::Batch(1)));
-    assert_eq!(index.get(6), found(60, 0, Place::Buffer));
+    assert_eq!(index.get(5), found(50, 1, 2, Place::Batch(1)));
+    assert_eq!(index.get(6), found(60, 0, 1, Place::Buffer));
     assert_eq!(index.memory().len(), 144);
     assert_eq!(index.flash().len(), 128);
 }
@@ -256,8 +251,8 @@ fn value_0_is_no_position() {
     // A key that its page has, and one for which the full page would be flushed.
     assert_eq!(index.put(3, 0), Err(Refused::NoPosition));
     assert_eq!(index.put(4, 0), Err(Refused::NoPosition));
-    assert_eq!(index.get(3), found(1, 0, Place::Buffer));
-    assert_eq!(index.get(4), Ok(Lookup::None { reads: 0 }));
+    assert_eq!(index.get(3), found(1, 0, 3, Place::Buffer));
+    assert_eq!(index.get(4), Ok(Lookup::none(0, 3)));
     memory[36] = 2;
     let mut index = Index::attach(&mut memory, &mut flash);
     assert_eq!(index.put(5, 1), Err(Refused::Overfull));
@@ -310,26 +305,23 @@ fn needs_are_those_of_format() {
 fn geometries_outside_the_ranges() {
     assert!(G.is_allowed() && LARGEST.is_allowed() && Geometry::default().is_allowed());
     let wrong = [
-        Geometry { parts: 9, ..G },
-        Geometry { page: 32, ..G },
-        Geometry { page: 96, ..G },
-        Geometry { page: 8192, ..G },
-        Geometry { pages: 0, ..G },
-        Geometry { pages: 3, ..G },
-        Geometry { pages: 128, ..G },
-        Geometry { kept: 0, ..G },
-        Geometry { kept: 33, ..G },
-        Geometry { bits: 32, ..G },
-        Geometry { bits: 100, ..G },
-        Geometry { bits: 131_072, ..G },
-        Geometry { hashes: 0, ..G },
-        Geometry { hashes: 9, ..G },
-        Geometry { list: 0, ..G },
-        Geometry { list: 1025, ..G },
-        Geometry {
-            parts: u32::MAX,
-            ..LARGEST
-        },
+        G.with_parts(9),
+        G.with_page(32),
+        G.with_page(96),
+        G.with_page(8192),
+        G.with_pages(0),
+        G.with_pages(3),
+        G.with_pages(128),
+        G.with_kept(0),
+        G.with_kept(33),
+        G.with_bits(32),
+        G.with_bits(100),
+        G.with_bits(131_072),
+        G.with_hashes(0),
+        G.with_hashes(9),
+        G.with_list(0),
+        G.with_list(1025),
+        LARGEST.with_parts(u32::MAX),
     ];
     for geometry in wrong {
         assert!(!geometry.is_allowed(), "{geometry:?}");

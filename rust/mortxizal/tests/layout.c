@@ -1,5 +1,15 @@
-/* What include/mortxizal.h promises of sizes and numbers, checked by the compiler; C99 has no static assertion. */
+/*
+ * What include/mortxizal.h promises of sizes and numbers, checked by the compiler; C99 has no static assertion.
+ * The program prints the interface's number, by the header and by the library.
+ */
+#include <inttypes.h>
+#include <stdio.h>
+
 #include "mortxizal.h"
+
+#if MX_INTERFACE != 8
+#error "the sizes below are those of interface 8"
+#endif
 
 #define HOLDS(name, fact) typedef char name[(fact) ? 1 : -1]
 #define PLACED(type, field, at, length)                                   \
@@ -11,7 +21,8 @@ PLACED(mx_answer, number, 4, 4);
 PLACED(mx_answer, reads, 8, 4);
 PLACED(mx_answer, batch, 12, 4);
 PLACED(mx_answer, value, 16, 8);
-HOLDS(answer_length, sizeof(mx_answer) == 24);
+PLACED(mx_answer, comparisons, 24, 4);
+HOLDS(answer_length, sizeof(mx_answer) == 32);
 
 PLACED(mx_card, status, 0, 4);
 PLACED(mx_card, number, 4, 4);
@@ -33,5 +44,6 @@ HOLDS(longest_line, sizeof "(put 18446744073709551615 18446744073709551615)\n" -
 
 int main(void)
 {
+    printf("%d %" PRIu32 "\n", MX_INTERFACE, mx_interface());
     return 0;
 }

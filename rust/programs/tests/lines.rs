@@ -78,7 +78,7 @@ fn bad_lines_do_nothing() {
     let mut output = String::from("(ok 0)\n(ok 0)\n");
     for line in BAD {
         input.push_str(&format!("{line}\n(get 1)\n"));
-        output.push_str("(bad)\n(found 10 0)\n");
+        output.push_str("(bad)\n(found 10 0 1)\n");
     }
     assert_eq!(String::from_utf8(run(input.as_bytes())).unwrap(), output);
     compare(input.as_bytes());
@@ -111,7 +111,7 @@ fn the_longest_forms() {
         "{format}\n{FORMAT}\n{put}\n(get {wide})\n(flush {most})\n(count {most})\n(drop {most})\n"
     );
     let refused = "(refused 4 0)\n".repeat(3);
-    let output = format!("(refused 1 0)\n(ok 0)\n(ok 0)\n(found {wide} 0)\n{refused}");
+    let output = format!("(refused 1 0)\n(ok 0)\n(ok 0)\n(found {wide} 0 1)\n{refused}");
     assert_eq!(run(input.as_bytes()), output.as_bytes());
     compare(input.as_bytes());
 }
@@ -131,9 +131,9 @@ fn long_line(line: &[u8]) {
     };
     for end in [&b""[..], b"\n", b"\n(get 1)"] {
         let input = around(end);
-        let mut output = b"(ok 0)\n(ok 0)\n(bad)\n(found 10 0)\n(bad)\n".to_vec();
+        let mut output = b"(ok 0)\n(ok 0)\n(bad)\n(found 10 0 1)\n(bad)\n".to_vec();
         if end.len() > 1 {
-            output.extend(b"(found 10 0)\n");
+            output.extend(b"(found 10 0 1)\n");
         }
         assert_eq!(run(&input), output, "a line of {} bytes", line.len());
     }

@@ -6,15 +6,14 @@ use programs::random::Rng;
 use programs::run;
 
 /// Four partitions. Both areas fit the session's of 32,768 bytes.
-const GEOMETRY: Geometry = Geometry {
-    parts: 2,
-    page: 128,
-    pages: 4,
-    kept: 6,
-    bits: 512,
-    hashes: 4,
-    list: 8,
-};
+const GEOMETRY: Geometry = Geometry::DEFAULT
+    .with_parts(2)
+    .with_page(128)
+    .with_pages(4)
+    .with_kept(6)
+    .with_bits(512)
+    .with_hashes(4)
+    .with_list(8);
 
 const FORMAT: &str =
     "(format (parts 2) (page 128) (pages 4) (kept 6) (bits 512) (hashes 4) (list 8))\n";
@@ -51,8 +50,8 @@ fn text(index: &Index, partition: u32) -> Vec<u8> {
 fn value(answer: &str) -> Option<u64> {
     let words: Vec<&str> = answer.split(' ').collect();
     match words[..] {
-        ["(found", value, _] => Some(value.parse().unwrap()),
-        ["(none", _] => None,
+        ["(found", value, _, _] => Some(value.parse().unwrap()),
+        ["(none", _, _] => None,
         _ => panic!("{answer}"),
     }
 }

@@ -1,4 +1,4 @@
-//! Whole sessions: document 01's, every refusal, counts, drops, the ends of input and output.
+//! Whole sessions: document 01's, every refusal, counts, drops, comparisons, the ends of input and output.
 
 use programs::{compare, run, run_to_full_disk};
 use std::fmt::Display;
@@ -89,13 +89,13 @@ fn every_refusal() {
         ("(put 2 20)".into(), "(ok 0)"),
         ("(put 3 30)".into(), "(ok 0)"),
         ("(put 5 0)".into(), "(refused 21 0)"),
-        ("(get 1)".into(), "(found 10 0)"),
+        ("(get 1)".into(), "(found 10 0 1)"),
         ("(flush 0)".into(), "(ok 1)"),
         ("(del 1)".into(), "(ok 0)"),
         ("(del 2)".into(), "(refused 14 0)"),
         ("(del 1)".into(), "(ok 0)"),
-        ("(get 1)".into(), "(none 0)"),
-        ("(get 2)".into(), "(found 20 1)"),
+        ("(get 1)".into(), "(none 0 0)"),
+        ("(get 2)".into(), "(found 20 1 2)"),
     ];
     check(lines);
 }
@@ -143,9 +143,9 @@ fn drops() {
         ("(del 4)", "(refused 14 0)"),
         ("(drop 0)", "(ok 0)"),
         ("(count 0)", "(ok 1)"),
-        ("(get 1)", "(none 0)"),
-        ("(get 2)", "(none 0)"),
-        ("(get 4)", "(found 40 1)"),
+        ("(get 1)", "(none 0 0)"),
+        ("(get 2)", "(none 0 0)"),
+        ("(get 4)", "(found 40 1 1)"),
         ("(del 4)", "(ok 0)"),
         ("(put 4 41)", "(ok 0)"),
         ("(flush 0)", "(ok 1)"),
@@ -154,12 +154,43 @@ fn drops() {
         ("(flush 0)", "(ok 1)"),
         ("(count 0)", "(ok 2)"),
         ("(drop 0)", "(ok 0)"),
-        ("(get 4)", "(none 0)"),
-        ("(get 0)", "(found 70 1)"),
+        ("(get 4)", "(none 0 0)"),
+        ("(get 0)", "(found 70 1 1)"),
         ("(drop 0)", "(ok 0)"),
-        ("(get 0)", "(none 0)"),
+        ("(get 0)", "(none 0 0)"),
         ("(drop 0)", "(refused 23 0)"),
         ("(count 0)", "(ok 0)"),
+    ];
+    check(lines);
+}
+
+/// The entries compared are the last number of found and none: in the buffer page,
+/// then in a page of each batch whose filter passes. That of the batch of 4, 5 and 6
+/// passes 260 and 262 too, and both filters pass 262.
+#[test]
+fn comparisons() {
+    let lines = [
+        (FORMAT, "(ok 0)"),
+        ("(get 1)", "(none 0 0)"),
+        ("(put 1 10)", "(ok 0)"),
+        ("(put 260 20)", "(ok 0)"),
+        ("(put 3 30)", "(ok 0)"),
+        ("(get 1)", "(found 10 0 1)"),
+        ("(get 3)", "(found 30 0 3)"),
+        ("(get 9)", "(none 0 3)"),
+        ("(flush 0)", "(ok 1)"),
+        ("(put 4 40)", "(ok 0)"),
+        ("(put 5 50)", "(ok 0)"),
+        ("(put 6 60)", "(ok 0)"),
+        ("(flush 0)", "(ok 1)"),
+        ("(get 6)", "(found 60 1 3)"),
+        ("(put 7 70)", "(ok 0)"),
+        ("(get 6)", "(found 60 1 4)"),
+        ("(get 260)", "(found 20 2 6)"),
+        ("(get 262)", "(none 2 7)"),
+        ("(get 8)", "(none 0 1)"),
+        ("(del 260)", "(ok 0)"),
+        ("(get 260)", "(none 0 0)"),
     ];
     check(lines);
 }
@@ -172,7 +203,7 @@ fn more_answers_than_room() {
     let mut output = String::from("(ok 0)\n(ok 0)\n(ok 1)\n");
     for _ in 0..50_000 {
         input.push_str("(get 1)\n");
-        output.push_str(&format!("(found {largest} 1)\n"));
+        output.push_str(&format!("(found {largest} 1 1)\n"));
     }
     assert!(run(input.as_bytes()) == output.as_bytes());
 }

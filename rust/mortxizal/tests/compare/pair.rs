@@ -2,6 +2,7 @@
 
 use mortxizal::raw;
 use mortxizal::{Index, Lookup, Place, Refused};
+use reference::Geometry;
 
 use crate::common::call::{call_index, digest, index_text, Answer, Call, BLANK};
 use crate::common::tally::Tally;
@@ -64,7 +65,7 @@ impl Pair {
     }
 
     /// Areas of random bytes.
-    pub fn random(rng: &mut Rng, g: reference::Geometry, memory: usize, flash: usize) -> Pair {
+    pub fn random(rng: &mut Rng, g: Geometry, memory: usize, flash: usize) -> Pair {
         let mut bytes = |length: usize| {
             let words = (0..length.div_ceil(8)).flat_map(|_| rng.next().to_le_bytes());
             words.take(length).collect::<Vec<u8>>()
@@ -92,7 +93,9 @@ impl Pair {
                 check_text(rng, memory, flash, t, &area, expected);
             }
             Call::Get(_) | Call::View(..) | Call::Count(_) => {
-                assert_eq!(call_raw(call, memory, flash), told(expected), "{call:?}");
+                let answer = call_raw(call, memory, flash);
+                assert_eq!(answer, told(expected), "{call:?}");
+                check_comparisons(answer, memory);
                 check_library(call, memory, flash, expected);
             }
             _ if rng.one_in(2) => {
@@ -126,15 +129,17 @@ impl Pair {
 
 /// An answer in all its fields, as `include/mortxizal.h` tells it.
 fn told(answer: Answer) -> raw::Answer {
-    let (status, number, reads, batch, value) = match answer {
-        Answer::Done(number) | Answer::Counted(number) => (raw::DONE, number, 0, 0, 0),
-        Answer::Dropped(_) => (raw::DONE, 0, 0, 0, 0),
-        Answer::Found(value, reads, batch) => (raw::FOUND, 0, reads, batch, value),
-        Answer::None(reads) => (raw::NONE, 0, reads, 0, 0),
-        Answer::InMemory(at, size) => (raw::DONE, size as u32, 0, 0, at as u64),
-        Answer::InFlash(at, size) => (raw::DONE, size as u32, 1, 1, at as u64),
-        Answer::Text(length, _) => (raw::DONE, 0, 0, 0, length as u64),
-        Answer::Refused(number, reads) => (raw::REFUSED, number, reads, 0, 0),
+    let (status, number, reads, batch, value, comparisons) = match answer {
+        Answer::Done(number) | Answer::Counted(number) => (raw::DONE, number, 0, 0, 0, 0),
+        Answer::Dropped(_) => (raw::DONE, 0, 0, 0, 0, 0),
+        Answer::Found(value, reads, comparisons, batch) => {
+            (raw::FOUND, 0, reads, batch, value, comparisons)
+        }
+        Answer::None(reads, comparisons) => (raw::NONE, 0, reads, 0, 0, comparisons),
+        Answer::InMemory(at, size) => (raw::DONE, size as u32, 0, 0, at as u64, 0),
+        Answer::InFlash(at, size) => (raw::DONE, size as u32, 1, 1, at as u64, 0),
+        Answer::Text(length, _) => (raw::DONE, 0, 0, 0, length as u64, 0),
+        Answer::Refused(number, reads) => (raw::REFUSED, number, reads, 0, 0, 0),
     };
     raw::Answer {
         status,
@@ -142,6 +147,20 @@ fn told(answer: Answer) -> raw::Answer {
         reads,
         batch,
         value,
+        comparisons,
+    }
+}
+
+/// A get compares at most the entries that fit its buffer page and each page that
+/// it reads.
+fn check_comparisons(answer: raw::Answer, memory: &[u8]) {
+    if answer.comparisons > 0 {
+        let opening = memory.first_chunk().and_then(Geometry::from_opening);
+        let entries = opening.expect("pages were searched").page / 16 - 1;
+        assert!(
+            answer.comparisons <= entries * (answer.reads + 1),
+            "{answer:?}"
+        );
     }
 }
 
@@ -213,17 +232,20 @@ fn refused(refused: Refused) -> Answer {
 
 fn lookup(lookup: Lookup) -> Answer {
     match lookup {
-        Lookup::None { reads } => Answer::None(reads),
         Lookup::Found {
             value,
             reads,
-            place: Place::Buffer,
-        } => Answer::Found(value, reads, 0),
-        Lookup::Found {
-            value,
-            reads,
-            place: Place::Batch(number),
-        } => Answer::Found(value, reads, number),
+            comparisons,
+            place,
+            ..
+        } => match place {
+            Place::Buffer => Answer::Found(value, reads, comparisons, 0),
+            Place::Batch(number) => Answer::Found(value, reads, comparisons, number),
+        },
+        Lookup::None {
+            reads, comparisons, ..
+        } => Answer::None(reads, comparisons),
+        other => panic!("{other:?}"),
     }
 }
 

@@ -5,15 +5,14 @@ use mortxizal::{raw, Geometry};
 use crate::common::call::Call;
 
 pub fn geometry(g: reference::Geometry) -> Geometry {
-    Geometry {
-        parts: g.parts,
-        page: g.page,
-        pages: g.pages,
-        kept: g.kept,
-        bits: g.bits,
-        hashes: g.hashes,
-        list: g.list,
-    }
+    Geometry::default()
+        .with_parts(g.parts)
+        .with_page(g.page)
+        .with_pages(g.pages)
+        .with_kept(g.kept)
+        .with_bits(g.bits)
+        .with_hashes(g.hashes)
+        .with_list(g.list)
 }
 
 /// Makes the call. A text is written to an area that nobody looks at.
