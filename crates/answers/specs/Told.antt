@@ -19,7 +19,7 @@ abbrev pub ofRefusal : model.Refusal → Refusal
 ofRefusal r = record { number = r .number; reads = r .reads }
 
 abbrev pub asTally : Tally → model.Tally
-asTally t = record { reads = t .reads }
+asTally t = record { reads = t .reads; comparisons = t .comparisons }
 
 -- what the checks of a call say
 abbrev pub verdict : Verdict → Option model.Refusal

@@ -24,8 +24,9 @@ pub enum Place {
     Batch(u32),
 }
 
-// What a get has cost: the pages read.
+// What a get has cost: the entries compared in pages, and the pages read. LLVM keeps both in one register, where the lower half, which comes first, grows without a shift.
 pub struct Tally {
+    pub comparisons: u32,
     pub reads: u32,
 }
 

@@ -11,17 +11,17 @@ use borrow.Author.Tests.{eq-eqb, eqb-true, lt-ltb, le-ltb}
 use Rattle.model.specs.declared.Geometry.{Geometry}
 use Rattle.model.specs.Keys.{partitionOf, pageOf}
 use Rattle.model.specs.Records.{keyAt}
-use Rattle.model.specs.Page.{countOf, valueAt, searched, expected}
+use Rattle.model.specs.Page.{countOf, valueAt, searched, compared, expected}
 use Rattle.model.specs.DeleteList.{listedAt}
 use Rattle.model.specs.Partition.{Head, headOf, listedOf, listOf, flushesOf, liveOf, bufferOf, batchPasses, passingFrom, passing}
 use Rattle.model.specs.Batch.{batchPage}
-use Rattle.model.specs.Answers.{Place, buffer, batch, Tally, tally, pageRead, Answer, done, found, absent, shown, refused}
-use Rattle.model.specs.Get.{hitIn, readThrough, sought}
+use Rattle.model.specs.Answers.{Place, buffer, batch, Tally, tally, Answer, done, found, absent, shown, refused}
+use Rattle.model.specs.Get.{hitIn, readsFor, reported, readThrough, sought}
 use Rattle.model.specs.PartitionText.{liveBatch, source, sourcePage, isPlace, isFoundIn, answersIn, isAt, answersWith}
 use Rattle.model.proofs.Tests.{either, both-true}
 use Rattle.model.proofs.Searching.{first-at}
 use Rattle.model.proofs.Passing.{pass-take, pass-skip, pass-end, passing-from}
-use Rattle.model.proofs.Lookup.{read-none, read-batch, sought-listed, sought-unlisted}
+use Rattle.model.proofs.Lookup.{withPage, read-none, read-batch, sought-listed, sought-unlisted}
 
 -- ---- what a search of a page leaves a get to answer
 hit-or-later : (page : List ℕ) (cost : Tally) (place : Place) (o : Option ℕ) (later : Answer) (v : ℕ) (c : Tally) (at : Place) → hitIn page cost place o later ≡ found v c at
@@ -56,21 +56,21 @@ module _ (g : Geometry) (k : ℕ) (p f : List ℕ) (v : ℕ) (c : Tally) (at : P
       record { number = number; below = l; here = here ∙ same; entry = entry; first = rw (← same) first; value = rw (← same) value }
 
   -- through a live batch, or behind it
-  one : (i n : ℕ) (cost : Tally) (ns : List ℕ) → i < liveOf p → n ≡ liveBatch (headOf p) i → readThrough g k f (n ∷ ns) cost ≡ found v c at → Hit g k p f v at ⊎ (readThrough g k f ns (pageRead cost) ≡ found v c at)
+  one : (i n : ℕ) (cost : Tally) (ns : List ℕ) → i < liveOf p → n ≡ liveBatch (headOf p) i → readThrough g k f (n ∷ ns) cost ≡ found v c at → Hit g k p f v at ⊎ (readThrough g k f ns (withPage g k f n cost) ≡ found v c at)
   one i n cost ns l e r =
       let page : List ℕ = batchPage g (partitionOf g k) f n (pageOf g k) in
-      let read : cond (expected g (partitionOf g k) n (pageOf g k) page) (hitIn page (pageRead cost) (batch n) (searched k page) (readThrough g k f ns (pageRead cost))) (refused 13 (cost .reads + 1)) ≡ found v c at = sym (read-batch g k f n ns cost) ∙ r in
+      let read : cond (expected g (partitionOf g k) n (pageOf g k) page) (hitIn page (reported g (withPage g k f n cost)) (batch n) (searched k page) (readThrough g k f ns (withPage g k f n cost))) (refused 13 (readsFor g (cost .reads + 1))) ≡ found v c at = sym (read-batch g k f n ns cost) ∙ r in
       either (expected g (partitionOf g k) n (pageOf g k) page)
       (λ good. ⊎-elim (λ w. inl (hit i (w .0) (batch n) (omega arith) (source-batch (headOf p) i l ∙ ap batch (sym e)) (w .1) (w .2) (w .3))) (λ later. inr later)
-      (hit-or-later page (pageRead cost) (batch n) (searched k page) (readThrough g k f ns (pageRead cost)) v c at (rw good at read)))
-      (λ bad. let a : refused 13 (cost .reads + 1) ≡ found v c at = rw bad at read in let z : _≡_ {A = ℕ} 0 1 = cc in absurd (omega arith))
+      (hit-or-later page (reported g (withPage g k f n cost)) (batch n) (searched k page) (readThrough g k f ns (withPage g k f n cost)) v c at (rw good at read)))
+      (λ bad. let a : refused 13 (readsFor g (cost .reads + 1)) ≡ found v c at = rw bad at read in let z : _≡_ {A = ℕ} 0 1 = cc in absurd (omega arith))
 
   through : (count n : ℕ) (cost : Tally) → count ≤ liveOf p → n ≡ flushesOf p - liveOf p + count → readThrough g k f (passingFrom g k p count n) cost ≡ found v c at → Hit g k p f v at
-  through zero n cost l e r = let a : absent cost ≡ found v c at = sym (ap (λ ns. readThrough g k f ns cost) (pass-end g k p 0 n (omega arith)) ∙ read-none g k f cost) ∙ r in let z : _≡_ {A = ℕ} 0 1 = cc in absurd (omega arith)
+  through zero n cost l e r = let a : absent (reported g cost) ≡ found v c at = sym (ap (λ ns. readThrough g k f ns cost) (pass-end g k p 0 n (omega arith)) ∙ read-none g k f cost) ∙ r in let z : _≡_ {A = ℕ} 0 1 = cc in absurd (omega arith)
   through (suc count) n cost l e r =
       let less : suc count - 1 ≡ count = omega arith in
       either (batchPasses g k p n)
-      (λ passes. ⊎-elim (λ h. h) (λ later. through count (n - 1) (pageRead cost) (omega arith) (omega arith) later)
+      (λ passes. ⊎-elim (λ h. h) (λ later. through count (n - 1) (withPage g k f n cost) (omega arith) (omega arith) later)
       (one count n cost (passingFrom g k p count (n - 1)) (omega arith) (omega arith) (rw (pass-take g k p (suc count) n (omega arith) passes, less) at r)))
       (λ skips. through count (n - 1) cost (omega arith) (omega arith) (rw (pass-skip g k p (suc count) n (omega arith) skips, less) at r))
 
@@ -78,12 +78,13 @@ module _ (g : Geometry) (k : ℕ) (p f : List ℕ) (v : ℕ) (c : Tally) (at : P
   found-hit flushed r = go (listedAt (listedOf p) k (listOf g p)) refl
     where
       go : (o : Option ℕ) → listedAt (listedOf p) k (listOf g p) ≡ o → Hit g k p f v at
-      go (some i) e = let a : absent (tally 0) ≡ found v c at = sym (sought-listed g k f p i e) ∙ r in let z : _≡_ {A = ℕ} 0 1 = cc in absurd (omega arith)
+      go (some i) e = let a : absent (tally 0 0) ≡ found v c at = sym (sought-listed g k f p i e) ∙ r in let z : _≡_ {A = ℕ} 0 1 = cc in absurd (omega arith)
       go none e =
           let page : List ℕ = bufferOf g p (pageOf g k) in
+          let cost : Tally = tally 0 (compared k page) in
           ⊎-elim (λ w. hit (liveOf p) (w .0) buffer (omega arith) (source-buffer (headOf p) (liveOf p) (omega arith)) (w .1) (w .2) (w .3))
-          (λ later. through (liveOf p) (flushesOf p) (tally 0) (omega arith) (omega (arith, flushed)) (rw (passing-from g k p) at later))
-          (hit-or-later page (tally 0) buffer (searched k page) (readThrough g k f (passing g k p) (tally 0)) v c at (sym (sought-unlisted g k f p e) ∙ r))
+          (λ later. through (liveOf p) (flushesOf p) cost (omega arith) (omega (arith, flushed)) (rw (passing-from g k p) at later))
+          (hit-or-later page cost buffer (searched k page) (readThrough g k f (passing g k p) cost) v c at (sym (sought-unlisted g k f p e) ∙ r))
 
 -- ---- an entry of a source that answers is what a get of its key finds there
 pub record Answered (g : Geometry) (t : ℕ) (p f : List ℕ) (at : Place) (q i : ℕ) : Type 0 where

@@ -123,6 +123,10 @@ module _ (g : Geometry) (k : ℕ) (p : List ℕ) where
   unfolding getChecks
   get-passes e = rw e
 
+  pub get-fits : getChecks g k p ≡ none → keyOverfull g k p ≡ false
+  unfolding getChecks
+  get-fits e = refuse-none (keyOverfull g k p) 12 none e .0
+
   -- ---- del: 12, 14, 12
   pub del-12 : keyOverfull g k p ≡ true → delChecks g k p ≡ some (unread 12)
   unfolding delChecks

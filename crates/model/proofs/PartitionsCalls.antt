@@ -8,7 +8,6 @@ use native.Mathlib.Omega.{arith}
 use lib.ListN.{length}
 use Rattle.model.specs.declared.Geometry.{Geometry}
 use Rattle.model.specs.Bytes.{within}
-use Rattle.model.specs.Search.{firstFrom}
 use Rattle.model.specs.Geometry.{allowed, listAt, listSize, bufferAt, stride}
 use Rattle.model.specs.Keys.{partitionOf, pageOf}
 use Rattle.model.specs.Page.{stored, without, taken, emptied}
@@ -96,10 +95,6 @@ module _ (g : Geometry) (k : ℕ) (p : List ℕ) where
   pub not-listed : listedAt (listedOf p) k (listOf g p) ≡ none → unlisted g k p ≡ p
   unfolding unlisted
   not-listed e = rw e
-
-  pub none-listed : listedOf p ≡ 0 → unlisted g k p ≡ p
-  unfolding firstFrom
-  none-listed e = not-listed (rw e)
 
   pub deleted-listed : isListed g k p ≡ true → deleted g k p ≡ p
   unfolding deleted

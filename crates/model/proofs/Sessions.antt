@@ -11,12 +11,12 @@ use Rattle.model.specs.Calls.{Call, reply, after}
 use Rattle.model.specs.Session.{callOf, answerText, linePrints, lineLeaves, linesOf, linesPrint, linesLeave}
 use Rattle.model.proofs.Decimals.{length-decimal}
 
--- an answer's text has at most 64 bytes
-pub length-answer : (a : Answer) → length (answerText a) ≤ 64
+-- an answer's text has at most 72 bytes
+pub length-answer : (a : Answer) → length (answerText a) ≤ 72
 unfolding answerText
 length-answer (done n) = simp length-append (omega (arith, length-decimal n))
-length-answer (found v c p) = simp length-append (omega (arith, length-decimal v, length-decimal (c .reads)))
-length-answer (absent c) = simp length-append (omega (arith, length-decimal (c .reads)))
+length-answer (found v c p) = simp length-append (omega (arith, length-decimal v, length-decimal (c .reads), length-decimal (c .comparisons)))
+length-answer (absent c) = simp length-append (omega (arith, length-decimal (c .reads), length-decimal (c .comparisons)))
 length-answer (refused n r) = simp length-append (omega (arith, length-decimal n, length-decimal r))
 length-answer (shown s) = omega arith
 

@@ -10,13 +10,13 @@ use Rattle.model.specs.declared.Geometry.{Geometry}
 use Rattle.model.specs.Search.{isSome}
 use Rattle.model.specs.Geometry.{partitions}
 use Rattle.model.specs.Keys.{partitionOf, pageOf}
-use Rattle.model.specs.Page.{searched, expected}
+use Rattle.model.specs.Page.{searched, compared, expected}
 use Rattle.model.specs.DeleteList.{listedAt}
 use Rattle.model.specs.Partition.{partition, headOf, listedOf, listOf, flushesOf, liveOf, bufferOf, isLive, oldest, batchPasses, passingFrom, passing}
 use Rattle.model.specs.Batch.{batchPage, failedPage}
-use Rattle.model.specs.Answers.{Areas, Place, buffer, batch, Tally, tally, pageRead, Answer, absent, refused}
+use Rattle.model.specs.Answers.{Areas, Place, buffer, batch, Tally, tally, Answer, absent, refused}
 use Rattle.model.specs.Refusals.{headOverfull, somePageOverfull}
-use Rattle.model.specs.Get.{getChecks, hitIn, readThrough, sought}
+use Rattle.model.specs.Get.{getChecks, hitIn, reported, readThrough, sought}
 use Rattle.model.specs.PartitionText.{liveBatch, someBatchFails}
 use Rattle.model.specs.Calls.{get, text, geometryIn, partitionIn, checks, reply}
 use Rattle.model.proofs.Tests.{either}
@@ -26,7 +26,7 @@ use Rattle.model.proofs.Heads.{head-fits, live-bounds, bounds-live}
 use Rattle.model.proofs.Passing.{pass-take, pass-skip, pass-end, passing-from}
 use Rattle.model.proofs.Checks.{none-found, pages-fit, fits-key, text-accepted}
 use Rattle.model.proofs.KeyedChecks.{get-passes}
-use Rattle.model.proofs.Lookup.{read-none, read-batch, sought-listed, sought-unlisted}
+use Rattle.model.proofs.Lookup.{withPage, read-none, read-batch, sought-listed, sought-unlisted}
 use Rattle.model.proofs.Calls.{Opened, opens, opened, later-passed, checks-get, result-get, reply-accepted}
 
 -- ---- each page of a live batch is the one expected
@@ -50,13 +50,13 @@ later-refused page cost place (some i) later m r e = let z : _≡_ {A = ℕ} 0 1
 module _ (g : Geometry) (k : ℕ) (p f : List ℕ) (flushed : liveOf p ≤ flushesOf p)
     (whole : (n : ℕ) → isLive (headOf p) n ≡ true → expected g (partitionOf g k) n (pageOf g k) (batchPage g (partitionOf g k) f n (pageOf g k)) ≡ true) (m r : ℕ) where
   through : (count n : ℕ) (cost : Tally) → count ≤ liveOf p → n ≡ flushesOf p - liveOf p + count → readThrough g k f (passingFrom g k p count n) cost ≡ refused m r → ⊥
-  through zero n cost l e x = let a : absent cost ≡ refused m r = sym (ap (λ ns. readThrough g k f ns cost) (pass-end g k p 0 n (omega arith)) ∙ read-none g k f cost) ∙ x in let z : _≡_ {A = ℕ} 0 1 = cc in omega arith
+  through zero n cost l e x = let a : absent (reported g cost) ≡ refused m r = sym (ap (λ ns. readThrough g k f ns cost) (pass-end g k p 0 n (omega arith)) ∙ read-none g k f cost) ∙ x in let z : _≡_ {A = ℕ} 0 1 = cc in omega arith
   through (suc count) n cost l e x =
       let less : suc count - 1 ≡ count = omega arith in
       let page : List ℕ = batchPage g (partitionOf g k) f n (pageOf g k) in
       either (batchPasses g k p n)
-      (λ passes. through count (n - 1) (pageRead cost) (omega arith) (omega arith)
-      (later-refused page (pageRead cost) (batch n) (searched k page) (readThrough g k f (passingFrom g k p count (n - 1)) (pageRead cost)) m r
+      (λ passes. through count (n - 1) (withPage g k f n cost) (omega arith) (omega arith)
+      (later-refused page (reported g (withPage g k f n cost)) (batch n) (searched k page) (readThrough g k f (passingFrom g k p count (n - 1)) (withPage g k f n cost)) m r
       (rw (pass-take g k p (suc count) n (omega arith) passes, less, read-batch g k f n (passingFrom g k p count (n - 1)) cost, whole n (bounds-live (headOf p) n (omega arith) (omega arith) (omega arith))) at x)))
       (λ skips. through count (n - 1) cost (omega arith) (omega arith) (rw (pass-skip g k p (suc count) n (omega arith) skips, less) at x))
 
@@ -64,11 +64,12 @@ module _ (g : Geometry) (k : ℕ) (p f : List ℕ) (flushed : liveOf p ≤ flush
   sought-accepted x = go (listedAt (listedOf p) k (listOf g p)) refl
     where
       go : (o : Option ℕ) → listedAt (listedOf p) k (listOf g p) ≡ o → ⊥
-      go (some i) e = let a : absent (tally 0) ≡ refused m r = sym (sought-listed g k f p i e) ∙ x in let z : _≡_ {A = ℕ} 0 1 = cc in omega arith
+      go (some i) e = let a : absent (tally 0 0) ≡ refused m r = sym (sought-listed g k f p i e) ∙ x in let z : _≡_ {A = ℕ} 0 1 = cc in omega arith
       go none e =
           let page : List ℕ = bufferOf g p (pageOf g k) in
-          through (liveOf p) (flushesOf p) (tally 0) (omega arith) (omega (arith, flushed))
-          (rw (passing-from g k p) at (later-refused page (tally 0) buffer (searched k page) (readThrough g k f (passing g k p) (tally 0)) m r (sym (sought-unlisted g k f p e) ∙ x)))
+          let cost : Tally = tally 0 (compared k page) in
+          through (liveOf p) (flushesOf p) cost (omega arith) (omega (arith, flushed))
+          (rw (passing-from g k p) at (later-refused page cost buffer (searched k page) (readThrough g k f (passing g k p) cost) m r (sym (sought-unlisted g k f p e) ∙ x)))
 
 -- ---- what an accepted text gives
 module _ (a : Areas) (t room : ℕ) (passed : checks a (text t room) ≡ none) where

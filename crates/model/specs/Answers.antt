@@ -22,16 +22,17 @@ abbrev pub bytesIn : Areas → Stretch → List ℕ
 bytesIn a (inMemory at n) = mid at n (a .memory)
 bytesIn a (inFlash at n) = mid at n (a .flash)
 
--- what a get has cost: the pages read
+-- what a get has cost: the pages read, and the entries compared in pages (02, job 8)
 pub record Tally : Type 0 where
   pub reads : ℕ
+  pub comparisons : ℕ
 
-abbrev pub tally : ℕ → Tally
-tally reads = record { reads = reads }
+abbrev pub tally : ℕ → ℕ → Tally
+tally reads comparisons = record { reads = reads; comparisons = comparisons }
 
--- one page more
-abbrev pub pageRead : Tally → Tally
-pageRead c = tally (c .reads + 1)
+-- one page more is read, and so many of its entries are compared
+abbrev pub pageRead : ℕ → Tally → Tally
+pageRead n c = tally (c .reads + 1) (c .comparisons + n)
 
 -- a refusal's number, and the pages read before it
 pub record Refusal : Type 0 where

@@ -22,6 +22,14 @@ valueAt p i = word 8 p (16 * i + 8)
 abbrev pub searched : ℕ → List ℕ → Option ℕ
 searched k p = firstRecord k (countOf p) 1 p
 
+-- The entries that this compares: up to the one with the key, or all used ones (02, job 8). A page's places are counted from 0, so the entry that is record i is at place i − 1.
+abbrev pub comparedAt : Option ℕ → List ℕ → ℕ
+comparedAt (some i) p = i
+comparedAt none p = countOf p
+
+unfoldable pub compared : ℕ → List ℕ → ℕ
+compared k p = comparedAt (searched k p) p
+
 unfoldable pub appended : ℕ → ℕ → List ℕ → List ℕ
 appended k v p = write 2 (countOf p + 1) 0 (write 8 v (16 * (countOf p + 1) + 8) (write 8 k (16 * (countOf p + 1)) p))
 

@@ -81,11 +81,11 @@ formatLine xs =
 unfoldable pub callOf : List ℕ → Option Call
 callOf xs = orElse (putLine xs) (orElse (getLine xs) (orElse (delLine xs) (orElse (flushLine xs) (orElse (countLine xs) (orElse (dropLine xs) (formatLine xs))))))
 
--- After ok: pages written, or the total. After found: value, reads. After none: reads. After refused: number, reads. A view has no form.
+-- After ok: pages written, or the total. After found: value, reads, comparisons. After none: reads, comparisons. After refused: number, reads. A view has no form.
 unfoldable pub answerText : Answer → List ℕ
 answerText (done n) = text "(ok " ++ decimal n ++ text ")\n"
-answerText (found v c p) = text "(found " ++ decimal v ++ text " " ++ decimal (c .reads) ++ text ")\n"
-answerText (absent c) = text "(none " ++ decimal (c .reads) ++ text ")\n"
+answerText (found v c p) = text "(found " ++ decimal v ++ text " " ++ decimal (c .reads) ++ text " " ++ decimal (c .comparisons) ++ text ")\n"
+answerText (absent c) = text "(none " ++ decimal (c .reads) ++ text " " ++ decimal (c .comparisons) ++ text ")\n"
 answerText (refused n r) = text "(refused " ++ decimal n ++ text " " ++ decimal r ++ text ")\n"
 answerText (shown s) = []
 
