@@ -49,19 +49,19 @@ sevens n = map (λ _. 7) (zeros n)
 abbrev pub ok : ℕ → List ℕ
 ok pages = 0 ∷ pages ∷ []
 
-abbrev pub foundWith : ℕ → ℕ → List ℕ
-foundWith value reads = 1 ∷ value ∷ reads ∷ []
+abbrev pub foundWith : ℕ → ℕ → ℕ → List ℕ
+foundWith value reads comparisons = 1 ∷ value ∷ reads ∷ comparisons ∷ []
 
-abbrev pub noneWith : ℕ → List ℕ
-noneWith reads = 2 ∷ reads ∷ []
+abbrev pub noneWith : ℕ → ℕ → List ℕ
+noneWith reads comparisons = 2 ∷ reads ∷ comparisons ∷ []
 
 abbrev pub refusedWith : ℕ → ℕ → List ℕ
 refusedWith number reads = 3 ∷ number ∷ reads ∷ []
 
 abbrev pub figures : Answer → List ℕ
 figures (done n) = ok n
-figures (found v c p) = foundWith v (c .reads)
-figures (absent c) = noneWith (c .reads)
+figures (found v c p) = foundWith v (c .reads) (c .comparisons)
+figures (absent c) = noneWith (c .reads) (c .comparisons)
 figures (shown s) = []
 figures (refused n r) = refusedWith n r
 
@@ -154,7 +154,7 @@ abbrev pub input : String
 input = "(format (parts 0) (page 64) (pages 1) (kept 2) (bits 64) (hashes 3) (list 1))\n(put 1 10)\n(put 2 20)\n(put 3 30)\n(put 0 40)\n(get 2)\n(del 2)\n(get 2)\n(del 3)\n(get 3)\n(flush 0)\n(get 0)\n"
 
 abbrev pub output : String
-output = "(ok 0)\n(ok 0)\n(ok 0)\n(ok 0)\n(ok 1)\n(found 20 1)\n(ok 0)\n(none 0)\n(refused 14 0)\n(found 30 1)\n(ok 1)\n(found 40 1)\n"
+output = "(ok 0)\n(ok 0)\n(ok 0)\n(ok 0)\n(ok 1)\n(found 20 1 3)\n(ok 0)\n(none 0 0)\n(refused 14 0)\n(found 30 1 4)\n(ok 1)\n(found 40 1 1)\n"
 
 -- five keys, and the form of count
 abbrev pub counting : String
@@ -181,7 +181,7 @@ abbrev pub dropping : String
 dropping = "(format (parts 0) (page 64) (pages 1) (kept 2) (bits 64) (hashes 3) (list 1))\n(drop 0)\n(put 1 10)\n(flush 0)\n(get 1)\n(drop 0)\n(get 1)\n(drop 1)\n(drop 00)\n"
 
 abbrev pub dropped : String
-dropped = "(ok 0)\n(refused 23 0)\n(ok 0)\n(ok 1)\n(found 10 1)\n(ok 0)\n(none 0)\n(refused 4 0)\n(bad)\n"
+dropped = "(ok 0)\n(refused 23 0)\n(ok 0)\n(ok 1)\n(found 10 1 1)\n(ok 0)\n(none 0 0)\n(refused 4 0)\n(bad)\n"
 
 pub record Row : Type 0 where
   pub given : List (List ℕ)
@@ -208,6 +208,25 @@ twice = put 1 10 ∷ put 2 20 ∷ flush 0 ∷ put 3 30 ∷ put 1 11 ∷ []
 abbrev pub nine : List Call
 nine = map (λ k. put k 1) (0 ∷ 1 ∷ 2 ∷ 3 ∷ 4 ∷ 5 ∷ 6 ∷ 7 ∷ 8 ∷ [])
 
+-- two batches of the same two keys, and another key in the buffer
+abbrev pub alike : List Call
+alike = put 0 10 ∷ put 2 20 ∷ flush 0 ∷ put 0 11 ∷ put 2 21 ∷ flush 0 ∷ put 5 50 ∷ []
+
+-- job 8
+unfoldable pub searches : List Row
+searches =
+    -- the buffer page: its first entry, its last, and all of them for a key that it lacks
+    answers (lists.drop 4 (session (put 1 10 ∷ put 2 20 ∷ put 3 30 ∷ get 1 ∷ get 3 ∷ get 4 ∷ []))) (foundWith 10 0 1 ∷ foundWith 30 0 3 ∷ noneWith 0 3 ∷ [])
+    -- then each page that is read, up to the one with the key, and none of a batch whose filter does not pass
+    ∷ answers (lists.drop 8 (session (alike ++ (get 1 ∷ get 0 ∷ get 2 ∷ get 20 ∷ [])))) (noneWith 2 5 ∷ foundWith 11 1 2 ∷ foundWith 21 1 3 ∷ noneWith 0 1 ∷ [])
+    -- a listed key costs nothing, whatever the list, the buffer and the batches hold
+    ∷ answers (lists.drop 8 (session (alike ++ (del 2 ∷ get 2 ∷ [])))) (ok 0 ∷ noneWith 0 0 ∷ [])
+    -- an entry behind the used ones is not compared, and of a key twice in its page only the first is
+    ∷ answers (changed (write 2 1 80) (λ f. f) (put 1 10 ∷ put 2 20 ∷ []) (get 2) ∷ changed (write 8 1 112) (λ f. f) (put 1 10 ∷ put 2 20 ∷ []) (get 1) ∷ []) (noneWith 0 1 ∷ foundWith 10 0 1 ∷ [])
+    -- a refusal tells none: the second page read fails
+    ∷ answers (changed (λ m. m) (write 2 4 0) alike (get 1) ∷ []) (refusedWith 13 2 ∷ [])
+    ∷ []
+
 -- job 7
 unfoldable pub cards : List Row
 cards =
@@ -219,24 +238,24 @@ cards =
     -- 1, as in format
     ∷ answers (map (λ g. carried g 7) (withKept 0 ∷ withKept 33 ∷ withHashes 9 ∷ withPages 3 ∷ [])) (refusedWith 1 0 ∷ refusedWith 1 0 ∷ refusedWith 1 0 ∷ refusedWith 1 0 ∷ [])
     -- the tenth put loses the key of the first
-    ∷ answers (lists.drop 10 (session (nine ++ (get 0 ∷ put 9 1 ∷ get 0 ∷ [])))) (foundWith 1 1 ∷ ok 1 ∷ noneWith 0 ∷ [])
-    ∷ []
+    ∷ answers (lists.drop 10 (session (nine ++ (get 0 ∷ put 9 1 ∷ get 0 ∷ [])))) (foundWith 1 1 4 ∷ ok 1 ∷ noneWith 0 1 ∷ [])
+    ∷ searches
 
 -- job 6
 unfoldable pub drops : List Row
 drops =
     -- a drop takes batch 1 with its two entries, then batch 2, and then there is none
     answers (session (batches ++ (drop 0 ∷ get 1 ∷ get 3 ∷ count 0 ∷ drop 0 ∷ get 3 ∷ count 0 ∷ drop 0 ∷ [])))
-    (ok 0 ∷ batched ++ (ok 0 ∷ noneWith 0 ∷ foundWith 30 1 ∷ ok 1 ∷ ok 0 ∷ noneWith 0 ∷ ok 0 ∷ refusedWith 23 0 ∷ []))
+    (ok 0 ∷ batched ++ (ok 0 ∷ noneWith 0 0 ∷ foundWith 30 1 1 ∷ ok 1 ∷ ok 0 ∷ noneWith 0 0 ∷ ok 0 ∷ refusedWith 23 0 ∷ []))
     -- in a session of its own
     ∷ answers (linesPrint (linesOf (text dropping)) (areas 144 128) ∷ []) (text dropped ∷ [])
     -- the next flush pushes nothing out, reads no head, and lets batch 2 live on; the one after it pushes batch 2 out
     ∷ answers (session (lowered ++ (put 4 40 ∷ flush 0 ∷ get 3 ∷ count 0 ∷ put 5 50 ∷ flush 0 ∷ get 3 ∷ count 0 ∷ [])))
-    (ok 0 ∷ batched ++ (ok 0 ∷ ok 0 ∷ ok 1 ∷ foundWith 30 1 ∷ ok 2 ∷ ok 0 ∷ ok 1 ∷ noneWith 0 ∷ ok 2 ∷ []))
+    (ok 0 ∷ batched ++ (ok 0 ∷ ok 0 ∷ ok 1 ∷ foundWith 30 1 1 ∷ ok 2 ∷ ok 0 ∷ ok 1 ∷ noneWith 0 0 ∷ ok 2 ∷ []))
     ∷ answers (changed (λ m. m) (write 2 4 0) (lowered ++ (put 4 40 ∷ [])) (flush 0) ∷ changed (λ m. m) (write 2 4 0) (batches ++ (put 4 40 ∷ [])) (flush 0) ∷ []) (ok 1 ∷ refusedWith 13 1 ∷ [])
     -- a list entry stamped with batch 1 leaves with it, and its place is free; one stamped with batch 2 stays; what only batch 1 held is not listed any more
     ∷ answers (session (batches ++ (del 1 ∷ del 3 ∷ drop 0 ∷ del 3 ∷ [])) ++ session (batches ++ (del 3 ∷ drop 0 ∷ get 3 ∷ [])) ++ session (lowered ++ (del 1 ∷ del 3 ∷ [])))
-    (ok 0 ∷ batched ++ (ok 0 ∷ refusedWith 14 0 ∷ ok 0 ∷ ok 0 ∷ ok 0 ∷ []) ++ batched ++ (ok 0 ∷ ok 0 ∷ noneWith 0 ∷ ok 0 ∷ []) ++ batched ++ (ok 0 ∷ ok 0 ∷ ok 0 ∷ []))
+    (ok 0 ∷ batched ++ (ok 0 ∷ refusedWith 14 0 ∷ ok 0 ∷ ok 0 ∷ ok 0 ∷ []) ++ batched ++ (ok 0 ∷ ok 0 ∷ noneWith 0 0 ∷ ok 0 ∷ []) ++ batched ++ (ok 0 ∷ ok 0 ∷ ok 0 ∷ []))
     -- the dropped batch is not shown, and not in the text
     ∷ answers (changed (λ m. m) (λ f. f) lowered (view 0 0 1) ∷ texted (λ m. m) (λ f. f) lowered 0 11) (refusedWith 17 0 ∷ ok 11 ∷ text "(put 3 30)\n" ∷ [])
     -- 12 in every call: a live number of 3, above K; and one above F, and a list overfull, before 23
@@ -317,12 +336,12 @@ rows =
     ∷ numbers (bitOf G (mixed 1) 0 ∷ bitOf G (mixed 1) 1 ∷ bitOf G (mixed 1) 2 ∷ []) (1 ∷ 2 ∷ 3 ∷ [])
     ∷ numbers (bitOf G (mixed 2) 0 ∷ bitOf G (mixed 2) 1 ∷ bitOf G (mixed 2) 2 ∷ []) (2 ∷ 3 ∷ 4 ∷ [])
     -- 5: a batch of keys 0 and 2 passes key 1
-    ∷ answers (session (put 0 10 ∷ put 2 20 ∷ flush 0 ∷ get 1 ∷ [])) (ok 0 ∷ ok 0 ∷ ok 0 ∷ ok 1 ∷ noneWith 1 ∷ [])
+    ∷ answers (session (put 0 10 ∷ put 2 20 ∷ flush 0 ∷ get 1 ∷ [])) (ok 0 ∷ ok 0 ∷ ok 0 ∷ ok 1 ∷ noneWith 1 2 ∷ [])
     -- 6: three keys fill the page, a repeat of the third doesn't flush, the fourth does
-    ∷ answers (session (put 1 10 ∷ put 2 20 ∷ put 3 30 ∷ put 3 31 ∷ put 4 40 ∷ get 3 ∷ [])) (ok 0 ∷ ok 0 ∷ ok 0 ∷ ok 0 ∷ ok 0 ∷ ok 1 ∷ foundWith 31 1 ∷ [])
+    ∷ answers (session (put 1 10 ∷ put 2 20 ∷ put 3 30 ∷ put 3 31 ∷ put 4 40 ∷ get 3 ∷ [])) (ok 0 ∷ ok 0 ∷ ok 0 ∷ ok 0 ∷ ok 0 ∷ ok 1 ∷ foundWith 31 1 4 ∷ [])
     -- 7: two flushes after its put a key is found; after three it is none
     ∷ answers (session (put 1 10 ∷ flush 0 ∷ put 20 20 ∷ flush 0 ∷ get 1 ∷ put 40 30 ∷ flush 0 ∷ get 1 ∷ []))
-    (ok 0 ∷ ok 0 ∷ ok 1 ∷ ok 0 ∷ ok 1 ∷ foundWith 10 1 ∷ ok 0 ∷ ok 1 ∷ noneWith 0 ∷ [])
+    (ok 0 ∷ ok 0 ∷ ok 1 ∷ ok 0 ∷ ok 1 ∷ foundWith 10 1 1 ∷ ok 0 ∷ ok 1 ∷ noneWith 0 0 ∷ [])
     -- 8: del of an absent key in a fresh table
     ∷ answers (session (del 7 ∷ [])) (ok 0 ∷ ok 0 ∷ [])
     ∷ numbers (listedOf (partitionIn (run (areas 144 128) (format G ∷ del 7 ∷ [])) 0) ∷ []) (0 ∷ [])
@@ -334,11 +353,11 @@ rows =
     ∷ answers (allFigures (replies (areas 144 128) (get 1 ∷ []))) (refusedWith 11 0 ∷ [])
     -- "The session program": its calls, and its text over two areas of 32,768 zero bytes
     ∷ answers (session worked)
-    (ok 0 ∷ ok 0 ∷ ok 0 ∷ ok 0 ∷ ok 1 ∷ foundWith 20 1 ∷ ok 0 ∷ noneWith 0 ∷ refusedWith 14 0 ∷ foundWith 30 1 ∷ ok 1 ∷ foundWith 40 1 ∷ [])
+    (ok 0 ∷ ok 0 ∷ ok 0 ∷ ok 0 ∷ ok 1 ∷ foundWith 20 1 3 ∷ ok 0 ∷ noneWith 0 0 ∷ refusedWith 14 0 ∷ foundWith 30 1 4 ∷ ok 1 ∷ foundWith 40 1 1 ∷ [])
     ∷ answers (linesPrint (linesOf (text input)) programAreas ∷ []) (text output ∷ [])
     -- job 1: a put of 0 is refused, also for a key that its page has and for a full page, where nothing is flushed then
     ∷ answers (session (put 5 0 ∷ put 1 10 ∷ put 2 20 ∷ put 3 1 ∷ put 3 0 ∷ put 5 0 ∷ get 3 ∷ get 5 ∷ []))
-    (ok 0 ∷ refusedWith 21 0 ∷ ok 0 ∷ ok 0 ∷ ok 0 ∷ refusedWith 21 0 ∷ refusedWith 21 0 ∷ foundWith 1 0 ∷ noneWith 0 ∷ [])
+    (ok 0 ∷ refusedWith 21 0 ∷ ok 0 ∷ ok 0 ∷ ok 0 ∷ refusedWith 21 0 ∷ refusedWith 21 0 ∷ foundWith 1 0 3 ∷ noneWith 0 3 ∷ [])
     -- behind 2, 11, 2 and 3
     ∷ answers (puttingZero (take 31) 128 ∷ puttingZero (write 4 1 28) 128 ∷ puttingZero (take 143) 128 ∷ puttingZero (λ m. m) 127 ∷ [])
     (refusedWith 2 0 ∷ refusedWith 11 0 ∷ refusedWith 2 0 ∷ refusedWith 3 0 ∷ [])

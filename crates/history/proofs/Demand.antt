@@ -4,25 +4,29 @@ use mathlib.Core.Path.{_≡_, refl, sym, _∙_, ap}
 use mathlib.Core.List.{_∷_}
 use mathlib.Core.Option.{some}
 use native.Mathlib.Omega.{arith}
+use lib.ListN.{length}
 use Rattle.model.specs.declared.Geometry.{Geometry}
 use Rattle.model.specs.Keys.{partitionOf, pageOf}
 use Rattle.model.specs.Partition.{partition}
 use Rattle.model.specs.Answers.{Areas}
-use Rattle.model.specs.Calls.{format, get, reply, run}
+use Rattle.model.specs.Get.{sought}
+use Rattle.model.specs.Calls.{format, get, geometryIn, reply, run}
 use Rattle.model.proofs.Calls.{result-get, reply-accepted}
+use Rattle.model.proofs.Lookup.{reads-most}
 use Rattle.model.proofs.Sizes.{page-of-lt, partition-of-lt}
 use Rattle.model.proofs.Tables.{find}
 use Rattle.history.specs.History.{History, events, remember}
 use Rattle.history.specs.Reads.{readBy}
-use Rattle.history.specs.Claim.{said, valueOf, Right, Holds, FromFormat, Demand3}
+use Rattle.history.specs.Claim.{said, valueOf, Cost, GetsCost, Right, Holds, FromFormat, Demand3}
 use Rattle.history.proofs.FromFormat.{from-format}
-use Rattle.history.proofs.Bare.{bare, saidOf, said-bare, bareOf, said-known}
+use Rattle.history.proofs.Bare.{bare, saidOf, said-bare, bareOf, said-known, known-accepted}
 use Rattle.history.proofs.Table.{Part}
 use Rattle.history.proofs.Walk.{live-count}
-use Rattle.history.proofs.Get.{lookedUp, batchesFor, lookedUp-bare, lookedUp-reads, batches-live}
+use Rattle.history.proofs.Get.{batchesFor, lookedUp-known, batches-live}
 use Rattle.history.proofs.Shows.{ShowsPart}
 use Rattle.history.proofs.Reading.{sought-shown, read-shown, live-falling}
 use Rattle.history.proofs.Following.{follows}
+use Rattle.history.proofs.Costs.{gets-cost}
 use Rattle.history.proofs.Checking.{get-checks}
 use Rattle.history.proofs.InStep.{InStep, format-keeps}
 use Rattle.history.proofs.Step.{step}
@@ -42,11 +46,8 @@ module _ (a : Areas) (h : History) (inv : InStep a h) where
     within : s .live ≤ s .flushes
     within = inv .good .core .parts (partitionOf g k) .liveFlushed
 
-    answers : reply a (get k) ≡ lookedUp g k s (find k (s .list)) (find k (s .buffer (pageOf g k)))
-    answers =
-        reply-accepted a (get k) (get-checks inv k hk)
-        ∙ result-get a g (inv .shows .geometry) k
-        ∙ sought-shown g (inv .shows .ok) k _ (a .flash) s shown within
+    answers : reply a (get k) ≡ sought g k (partition g (partitionOf g k) (a .memory)) (a .flash)
+    answers = reply-accepted a (get k) (get-checks inv k hk) ∙ result-get a g (inv .shows .geometry) k
 
     reads : readBy a k ≡ batchesFor g k s (find k (s .list)) (find k (s .buffer (pageOf g k)))
     reads = rw (inv .shows .geometry) (read-shown g (inv .shows .ok) k _ (a .flash) s shown within)
@@ -54,11 +55,16 @@ module _ (a : Areas) (h : History) (inv : InStep a h) where
     -- the value, and the place that its age tells
     pub placed : bare (reply a (get k)) ≡ bareOf (s .flushes) (h .keys k)
     placed =
-        rw answers
-        (lookedUp-bare g k s within (page-of-lt g (inv .shows .ok) k) (find k (s .list)) (find k (s .buffer (pageOf g k))) (h .keys k) refl (inv .good .core .keys k))
+        ap bare answers
+        ∙ sought-shown g (inv .shows .ok) k _ (a .flash) s shown within
+        ∙ (lookedUp-known g k s within (page-of-lt g (inv .shows .ok) k) (find k (s .list)) (find k (s .buffer (pageOf g k))) (h .keys k) refl (inv .good .core .keys k))
 
     pub says : said (reply a (get k)) ≡ some (valueOf (h .keys k))
     says = said-bare (reply a (get k)) ∙ ap saidOf placed ∙ said-known (s .flushes) (h .keys k)
+
+    cost : Cost a k
+    unfolding GetsCost
+    cost = gets-cost a k (known-accepted (reply a (get k)) (s .flushes) (h .keys k) placed)
 
     right : AllPositions h → Right a h k
     right positions =
@@ -67,8 +73,8 @@ module _ (a : Areas) (h : History) (inv : InStep a h) where
         record {
           says = says;
           nonzero = λ e. value-nonzero (h .keys k) (positions k) (sym says ∙ e);
-          reads = rw (answers, lookedUp-reads g k s within m b, inv .good .core .lives (partitionOf g k)) (omega (arith, live-count s (batchesFor g k s m b) (batches-live g k s within m b)));
-          counts = rw (answers, reads) (lookedUp-reads g k s within m b);
+          reads = rw (cost .reads, reads, inv .good .core .lives (partitionOf g k)) (omega (arith, reads-most (geometryIn a) (length (batchesFor g k s m b)), live-count s (batchesFor g k s m b) (batches-live g k s within m b)));
+          cost = cost;
           follows = follows a k;
           batches = rw (reads, inv .shows .geometry, shown .flushes)
               (live-falling g (inv .shows .ok) k _ (a .flash) s shown within (suc (s .flushes)) (batchesFor g k s m b) (batches-live g k s within m b));

@@ -4,24 +4,21 @@ use mathlib.Core.Path.{_≡_, refl, _∙_, ap}
 use mathlib.Core.List.{List, []}
 use mathlib.Core.Option.{Option, none, some}
 use native.Mathlib.Omega.{arith}
-use native.Mathlib.Nat.{zero-add}
-use lib.ListN.{length}
 use Rattle.model.specs.declared.Geometry.{Geometry}
 use Rattle.model.specs.Keys.{pageOf}
-use Rattle.model.specs.Answers.{Answer, found, absent, tally, buffer}
+use Rattle.model.specs.Answers.{buffer}
 use Rattle.history.specs.History.{Known}
-use Rattle.history.specs.Claim.{readsOf}
-use Rattle.history.proofs.Bare.{bare, bareOf}
+use Rattle.history.proofs.Bare.{Bare, value, nothing, bareOf}
 use Rattle.history.proofs.Table.{Part, passing}
 use Rattle.history.proofs.Told.{Told, listed, absent as unknown, present}
 use Rattle.history.proofs.Core.{seen}
-use Rattle.history.proofs.Walk.{lookIn, walk, walkRead, LiveBatches, walk-reads, walk-finds, walk-misses, walk-live, passing-live}
+use Rattle.history.proofs.Walk.{lookIn, walk, walkRead, LiveBatches, walk-finds, walk-misses, walk-live, passing-live}
 
 -- by the key's stamp and by what the buffer holds of it
-abbrev pub lookedUp : Geometry → ℕ → Part → Option ℕ → Option ℕ → Answer
-lookedUp g k p (some s) b = absent (tally 0)
-lookedUp g k p none (some v) = found v (tally 0) buffer
-lookedUp g k p none none = walk (lookIn g k p) (passing g k p) (tally 0)
+abbrev pub lookedUp : Geometry → ℕ → Part → Option ℕ → Option ℕ → Bare
+lookedUp g k p (some s) b = nothing
+lookedUp g k p none (some v) = value v buffer
+lookedUp g k p none none = walk (lookIn g k p) (passing g k p)
 
 abbrev pub batchesFor : Geometry → ℕ → Part → Option ℕ → Option ℕ → List ℕ
 batchesFor g k p (some s) b = []
@@ -32,24 +29,19 @@ module _ (g : Geometry) (k : ℕ) (p : Part) (within : p .live ≤ p .flushes) w
   by-age : (b : ℕ) → b ≤ p .flushes → lookIn g k p b ≡ seen g p k (suc (p .flushes - b))
   by-age b l = ap (lookIn g k p) (omega arith)
 
-  pub lookedUp-bare : pageOf g k < g .pages → (m b : Option ℕ) (w : Option Known) → seen g p k 0 ≡ b
-      → Told (p .live) (p .flushes) m (seen g p k) w → bare (lookedUp g k p m b) ≡ bareOf (p .flushes) w
-  lookedUp-bare inside (some s) b w e (listed silent) = refl
-  lookedUp-bare inside none none w e (unknown silent) =
-      walk-misses g k p inside (p .live) (p .flushes) (tally 0) within
+  pub lookedUp-known : pageOf g k < g .pages → (m b : Option ℕ) (w : Option Known) → seen g p k 0 ≡ b
+      → Told (p .live) (p .flushes) m (seen g p k) w → lookedUp g k p m b ≡ bareOf (p .flushes) w
+  lookedUp-known inside (some s) b w e (listed silent) = refl
+  lookedUp-known inside none none w e (unknown silent) =
+      walk-misses g k p inside (p .live) (p .flushes) within
       (λ b x y. by-age b y ∙ silent (suc (p .flushes - b)) (omega arith))
-  lookedUp-bare inside none (some v) w e (unknown silent) = let z = silent 0 (omega arith) in cc
-  lookedUp-bare inside none none w e (present {v = v} {a = zero} here fits silent) = cc
-  lookedUp-bare inside none (some v) w e (present {v = v′} {a = zero} here fits silent) = cc
-  lookedUp-bare inside none none w e (present {v = v} {a = suc a} here fits silent) =
-      walk-finds g k p inside (p .live) (p .flushes) (p .flushes - a) v (tally 0) (omega arith) (omega arith) here
+  lookedUp-known inside none (some v) w e (unknown silent) = let z = silent 0 (omega arith) in cc
+  lookedUp-known inside none none w e (present {v = v} {a = zero} here fits silent) = cc
+  lookedUp-known inside none (some v) w e (present {v = v′} {a = zero} here fits silent) = cc
+  lookedUp-known inside none none w e (present {v = v} {a = suc a} here fits silent) =
+      walk-finds g k p inside (p .live) (p .flushes) (p .flushes - a) v (omega arith) (omega arith) here
       (λ b x y. by-age b y ∙ silent (suc (p .flushes - b)) (omega arith))
-  lookedUp-bare inside none (some v) w e (present {v = v′} {a = suc a} here fits silent) = let z = silent 0 (omega arith) in cc
-
-  pub lookedUp-reads : (m b : Option ℕ) → readsOf (lookedUp g k p m b) ≡ length (batchesFor g k p m b)
-  lookedUp-reads (some s) b = refl
-  lookedUp-reads none (some v) = refl
-  lookedUp-reads none none = walk-reads (lookIn g k p) (passing g k p) (tally 0) ∙ zero-add _
+  lookedUp-known inside none (some v) w e (present {v = v′} {a = suc a} here fits silent) = let z = silent 0 (omega arith) in cc
 
   pub batches-live : (m b : Option ℕ) → LiveBatches p (suc (p .flushes)) (batchesFor g k p m b)
   batches-live (some s) b = tt

@@ -27,6 +27,7 @@ pub mod InStep
 pub mod Checking
 pub mod Keyed
 pub mod Step
+pub mod Costs
 pub mod Demand
 pub mod Counting
 pub mod Counts

@@ -8,17 +8,18 @@ use Rattle.model.specs.declared.Geometry.{Geometry}
 use Rattle.model.specs.Search.{isSome}
 use Rattle.model.specs.Geometry.{allowed}
 use Rattle.model.specs.Keys.{partitionOf, pageOf}
-use Rattle.model.specs.Page.{searched, expected}
+use Rattle.model.specs.Page.{searched, compared, expected}
 use Rattle.model.specs.DeleteList.{listedAt}
 use Rattle.model.specs.Partition.{listedOf, listOf, bufferOf, passing}
-use Rattle.model.specs.Answers.{Tally, tally, pageRead, Answer, buffer, batch}
+use Rattle.model.specs.Answers.{Tally, tally, Answer, buffer, batch}
 use Rattle.model.specs.Batch.{batchPage}
-use Rattle.model.specs.Get.{hitIn, readThrough, sought}
+use Rattle.model.specs.Get.{hitIn, reported, readThrough, sought}
 use Rattle.model.proofs.Sizes.{page-of-lt}
 use Rattle.model.proofs.Tables.{find}
 use Rattle.model.proofs.Entries.{heldAt}
-use Rattle.model.proofs.Lookup.{read-none, read-batch, sought-listed, sought-unlisted}
+use Rattle.model.proofs.Lookup.{withPage, read-none, read-batch, sought-listed, sought-unlisted}
 use Rattle.history.specs.Reads.{readOf, batchesRead, LiveFalling}
+use Rattle.history.proofs.Bare.{bare}
 use Rattle.history.proofs.Table.{Part, Live, passing as passingOf}
 use Rattle.history.proofs.Walk.{lookIn, answerAt, walk, walkRead, LiveBatches, passing-live}
 use Rattle.history.proofs.Get.{lookedUp, batchesFor}
@@ -27,7 +28,7 @@ use Rattle.history.proofs.Shows.{ShowsBatchPage, ShowsPart, live-by-hea
 use Rattle.history.proofs.Passing.{passing-shown}
 
 -- a search of a page answers with what it finds
-hit-batch : (page : List ℕ) (n : ℕ) (c : Tally) (o : Option ℕ) (later : Answer) → hitIn page c (batch n) o later ≡ answerAt (heldAt 8 page o) n c later
+hit-batch : (page : List ℕ) (n : ℕ) (c : Tally) (o : Option ℕ) (later : Answer) → bare (hitIn page c (batch n) o later) ≡ answerAt (heldAt 8 page o) n (bare later)
 hit-batch page n c none later = refl
 hit-batch page n c (some i) later = refl
 
@@ -41,13 +42,13 @@ module _ (g : Geometry) (ok : allowed g ≡ true) (k : ℕ) (p f : List ℕ) (s 
     is-expected : expected g (partitionOf g k) n (pageOf g k) (batchPage g (partitionOf g k) f n (pageOf g k)) ≡ true
     is-expected = page-expected (shown .page) n (shown .flush)
 
-  read-through : (high : ℕ) (ns : List ℕ) (c : Tally) → LiveBatches s high ns → readThrough g k f ns c ≡ walk (lookIn g k s) ns c
+  read-through : (high : ℕ) (ns : List ℕ) (c : Tally) → LiveBatches s high ns → bare (readThrough g k f ns c) ≡ walk (lookIn g k s) ns
   unfolding walk
-  read-through high [] c falls = read-none g k f c
+  read-through high [] c falls = ap bare (read-none g k f c)
   read-through high (n ∷ ns) c falls =
       let page : List ℕ = batchPage g (partitionOf g k) f n (pageOf g k) in
-      rw (read-batch g k f n ns c, is-expected n (falls .0), page-find (shown n (falls .0) .page) k, ← (read-through n ns (pageRead c) (falls .2)))
-      (hit-batch page n (pageRead c) (searched k page) (readThrough g k f ns (pageRead c)))
+      rw (read-batch g k f n ns c, is-expected n (falls .0), page-find (shown n (falls .0) .page) k, ← (read-through n ns (withPage g k f n c) (falls .2)))
+      (hit-batch page n (reported g (withPage g k f n c)) (searched k page) (readThrough g k f ns (withPage g k f n c)))
 
   read-of : (high : ℕ) (ns : List ℕ) → LiveBatches s high ns → readOf g k f ns ≡ walkRead (lookIn g k s) ns
   unfolding readOf walkRead
@@ -68,16 +69,16 @@ module _ (g : Geometry) (ok : allowed g ≡ true) (k : ℕ) (p f : List ℕ) (s 
   in-buffer = page-find (shows .buffer (pageOf g k) (page-of-lt g ok k)) k
 
   -- by where the list and the buffer page have the key
-  hit-buffer : (o : Option ℕ) → hitIn buffered (tally 0) buffer o (readThrough g k f (passing g k p) (tally 0)) ≡ lookedUp g k s none (heldAt 8 buffered o)
-  hit-buffer none = rw (passing-shown g ok (partitionOf g k) p f s shows k within) (read-through _ (passingOf g k s) (tally 0) (passing-live g k s within))
-  hit-buffer (some i) = refl
+  hit-buffer : (c : Tally) (o : Option ℕ) → bare (hitIn buffered c buffer o (readThrough g k f (passing g k p) c)) ≡ lookedUp g k s none (heldAt 8 buffered o)
+  hit-buffer c none = rw (passing-shown g ok (partitionOf g k) p f s shows k within) (read-through _ (passingOf g k s) c (passing-live g k s within))
+  hit-buffer c (some i) = refl
 
-  sought-in : (o : Option ℕ) → listedAt (listedOf p) k (listOf g p) ≡ o → sought g k p f ≡ lookedUp g k s (heldAt 4 (listOf g p) o) (heldAt 8 buffered (searched k buffered))
+  sought-in : (o : Option ℕ) → listedAt (listedOf p) k (listOf g p) ≡ o → bare (sought g k p f) ≡ lookedUp g k s (heldAt 4 (listOf g p) o) (heldAt 8 buffered (searched k buffered))
   unfolding buffered
-  sought-in none e = sought-unlisted g k f p e ∙ hit-buffer (searched k buffered)
-  sought-in (some i) e = sought-listed g k f p i e
+  sought-in none e = ap bare (sought-unlisted g k f p e) ∙ hit-buffer (tally 0 (compared k buffered)) (searched k buffered)
+  sought-in (some i) e = ap bare (sought-listed g k f p i e)
 
-  pub sought-shown : sought g k p f ≡ lookedUp g k s (find k (s .list)) (find k (s .buffer (pageOf g k)))
+  pub sought-shown : bare (sought g k p f) ≡ lookedUp g k s (find k (s .list)) (find k (s .buffer (pageOf g k)))
   sought-shown = rw (list-find shows k, in-buffer) (sought-in (listedAt (listedOf p) k (listOf g p)) refl)
 
   read-in : (m b : Option ℕ) → cond (isSome m) [] (cond (isSome b) [] (readOf g k f (passing g k p))) ≡ batchesFor g k s m b

@@ -1,4 +1,4 @@
--- The live batches that pass a key: what they leave out, and what a walk through them finds and reads.
+-- The live batches that pass a key: what they leave out, what a walk through them finds, and which of them it reads.
 use Prim.Native.Nat.{ℕ, zero, suc, _+_, _-_, _≤_, _<_}
 use mathlib.Core.Bool.{cond}
 use mathlib.Core.Path.{_≡_, refl}
@@ -10,40 +10,29 @@ use lib.ListN.{length}
 use Rattle.model.specs.declared.Geometry.{Geometry}
 use Rattle.model.specs.Search.{isSome}
 use Rattle.model.specs.Keys.{pageOf}
-use Rattle.model.specs.Answers.{Tally, pageRead, Answer, found, absent, batch}
+use Rattle.model.specs.Answers.{batch}
 use Rattle.model.proofs.Tests.{either}
 use Rattle.model.proofs.Tables.{find, passesIn}
 use Rattle.model.proofs.Passing.{passes-found, not-passed}
-use Rattle.history.specs.Claim.{readsOf}
-use Rattle.history.proofs.Bare.{value, nothing, bare}
+use Rattle.history.proofs.Bare.{Bare, value, nothing}
 use Rattle.history.proofs.Table.{Part, Live, passingFrom, passing}
 
 -- what batch n holds of the key
 abbrev pub lookIn : Geometry → ℕ → Part → ℕ → Option ℕ
 lookIn g k p n = find k (p .batch n (pageOf g k))
 
-abbrev pub answerAt : Option ℕ → ℕ → Tally → Answer → Answer
-answerAt (some v) n c later = found v c (batch n)
-answerAt none n c later = later
+abbrev pub answerAt : Option ℕ → ℕ → Bare → Bare
+answerAt (some v) n later = value v (batch n)
+answerAt none n later = later
 
--- the walk's answer, after this cost, and the batches that it reads
-unfoldable pub walk : (ℕ → Option ℕ) → List ℕ → Tally → Answer
-walk look [] c = absent c
-walk look (n ∷ ns) c = answerAt (look n) n (pageRead c) (walk look ns (pageRead c))
+-- the walk's answer, and the batches that it reads
+unfoldable pub walk : (ℕ → Option ℕ) → List ℕ → Bare
+walk look [] = nothing
+walk look (n ∷ ns) = answerAt (look n) n (walk look ns)
 
 unfoldable pub walkRead : (ℕ → Option ℕ) → List ℕ → List ℕ
 walkRead look [] = []
 walkRead look (n ∷ ns) = n ∷ cond (isSome (look n)) [] (walkRead look ns)
-
-pub walk-reads : (look : ℕ → Option ℕ) (ns : List ℕ) (c : Tally) → readsOf (walk look ns c) ≡ c .reads + length (walkRead look ns)
-unfolding walk walkRead
-walk-reads look [] c = omega arith
-walk-reads look (n ∷ ns) c = go (look n) refl (walk-reads look ns (pageRead c))
-  where
-    go : (o : Option ℕ) → look n ≡ o → readsOf (walk look ns (pageRead c)) ≡ c .reads + 1 + length (walkRead look ns)
-        → readsOf (walk look (n ∷ ns) c) ≡ c .reads + length (walkRead look (n ∷ ns))
-    go none e rest = simp e (omega arith)
-    go (some v) e rest = simp e (omega arith)
 
 -- live batches of the partition, each below the one before, all below `high`: none stands twice
 abbrev pub LiveBatches : Part → ℕ → List ℕ → Type 0
@@ -99,25 +88,25 @@ module _ (g : Geometry) (k : ℕ) (p : Part) where
         ])
 
     -- a walk finds the youngest, and says where
-    pub walk-finds : (count n m v : ℕ) (c : Tally) → m ≤ n → n < m + count → lookIn g k p m ≡ some v
-        → ((b : ℕ) → m < b → b ≤ n → lookIn g k p b ≡ none) → bare (walk (lookIn g k p) (passingFrom g k p count n) c) ≡ value v (batch m)
+    pub walk-finds : (count n m v : ℕ) → m ≤ n → n < m + count → lookIn g k p m ≡ some v
+        → ((b : ℕ) → m < b → b ≤ n → lookIn g k p b ≡ none) → walk (lookIn g k p) (passingFrom g k p count n) ≡ value v (batch m)
     unfolding walk passingFrom
-    walk-finds zero n m v c l h here silent = absurd (omega arith)
-    walk-finds (suc count) n m v c l h here silent = elim (ℕ-discrete m n) [
+    walk-finds zero n m v l h here silent = absurd (omega arith)
+    walk-finds (suc count) n m v l h here silent = elim (ℕ-discrete m n) [
       | yes e ↦
           (let here′ : find k (p .batch n (pageOf g k)) ≡ some v = rw e at here in
           rw e (simp (passes-found g k (p .batch n) (pageOf g k) inside v here′, here′)))
       | no e ↦ either (passesIn g (p .batch n) k)
           (λ w. simp (w, silent n (omega arith) (omega arith))
-          (walk-finds count (n - 1) m v (pageRead c) (omega arith) (omega arith) here (λ b x y. silent b x (omega arith))))
+          (walk-finds count (n - 1) m v (omega arith) (omega arith) here (λ b x y. silent b x (omega arith))))
           (λ w. simp w
-          (walk-finds count (n - 1) m v c (omega arith) (omega arith) here (λ b x y. silent b x (omega arith))))
+          (walk-finds count (n - 1) m v (omega arith) (omega arith) here (λ b x y. silent b x (omega arith))))
     ]
 
-    pub walk-misses : (count n : ℕ) (c : Tally) → count ≤ n → ((b : ℕ) → n < b + count → b ≤ n → lookIn g k p b ≡ none)
-        → bare (walk (lookIn g k p) (passingFrom g k p count n) c) ≡ nothing
+    pub walk-misses : (count n : ℕ) → count ≤ n → ((b : ℕ) → n < b + count → b ≤ n → lookIn g k p b ≡ none)
+        → walk (lookIn g k p) (passingFrom g k p count n) ≡ nothing
     unfolding walk passingFrom
-    walk-misses zero n c f silent = refl
-    walk-misses (suc count) n c f silent = either (passesIn g (p .batch n) k)
-        (λ w. simp (w, silent n (omega arith) (omega arith)) (walk-misses count (n - 1) (pageRead c) (omega arith) (λ b x y. silent b (omega arith) (omega arith))))
-        (λ w. simp w (walk-misses count (n - 1) c (omega arith) (λ b x y. silent b (omega arith) (omega arith))))
+    walk-misses zero n f silent = refl
+    walk-misses (suc count) n f silent = either (passesIn g (p .batch n) k)
+        (λ w. simp (w, silent n (omega arith) (omega arith)) (walk-misses count (n - 1) (omega arith) (λ b x y. silent b (omega arith) (omega arith))))
+        (λ w. simp w (walk-misses count (n - 1) (omega arith) (λ b x y. silent b (omega arith) (omega arith))))

@@ -11,9 +11,10 @@ use Rattle.model.specs.Keys.{partitionOf}
 use Rattle.model.specs.Partition.{flushesOf, liveOf, bufferOf}
 use Rattle.model.specs.Batch.{sum, entriesOf, batchEntries}
 use Rattle.model.specs.Answers.{Areas, Answer, done, found, absent, shown, refused}
+use Rattle.model.specs.Get.{readsFor}
 use Rattle.model.specs.Calls.{Call, format, put, get, del, flush, view, count, text, drop, geometryIn, partitionIn, keyPartition, reply, run}
 use Rattle.history.specs.History.{Known, History, events, remember}
-use Rattle.history.specs.Reads.{readBy, LiveFalling, Follows}
+use Rattle.history.specs.Reads.{readBy, comparedBy, LiveFalling, Follows}
 
 -- Keys and values are numbers of 64 bits. The other arguments may be any numbers.
 abbrev pub Fits : Call → Type 0
@@ -53,9 +54,26 @@ readsOf (absent c) = c .reads
 readsOf (shown s) = 0
 readsOf (refused n r) = r
 
+abbrev pub comparisonsOf : Answer → ℕ
+comparisonsOf (done n) = 0
+comparisonsOf (found v c p) = c .comparisons
+comparisonsOf (absent c) = c .comparisons
+comparisonsOf (shown s) = 0
+comparisonsOf (refused n r) = 0
+
 abbrev pub valueOf : Option Known → Option ℕ
 valueOf none = none
 valueOf (some w) = some (w .value)
+
+-- What a get that is accepted has cost (02, job 8): the reads of the pages that it reads, and the comparisons of its buffer page and of these pages. So at most E for the buffer page, and E for each page read.
+pub record Cost (a : Areas) (k : ℕ) : Type 0 where
+  pub reads : readsOf (reply a (get k)) ≡ readsFor (geometryIn a) (length (readBy a k))
+  pub comparisons : comparisonsOf (reply a (get k)) ≡ comparedBy a k
+  pub most : comparisonsOf (reply a (get k)) ≤ capacity (geometryIn a) + capacity (geometryIn a) * length (readBy a k)
+
+-- That is so on any areas, whether calls have made them since a format or not.
+unfoldable pub GetsCost : Type 0
+GetsCost = (a : Areas) (k : ℕ) → isRefused (reply a (get k)) ≡ false → Cost a k
 
 -- A get of any key is accepted. It gives the history's value for that key, and none exactly when the history has no such key.
 -- Document 02: "From a format on ... lookups then never show 0."
@@ -64,7 +82,7 @@ pub record Right (a : Areas) (h : History) (k : ℕ) : Type 0 where
   pub says : said (reply a (get k)) ≡ some (valueOf (h .keys k))
   pub nonzero : said (reply a (get k)) ≡ some (some 0) → ⊥
   pub reads : readsOf (reply a (get k)) ≤ h .live (partitionOf (h .geometry) k)
-  pub counts : readsOf (reply a (get k)) ≡ length (readBy a k)
+  pub cost : Cost a k
   pub follows : Follows a k (reply a (get k)) (readBy a k)
   pub batches : LiveFalling (keyPartition a k) (suc (flushesOf (keyPartition a k))) (readBy a k)
 

@@ -1,5 +1,5 @@
--- Which batches a get reads, in order, and how its answer follows from them, or from the buffer.
-use Prim.Native.Nat.{ℕ, _<_}
+-- Which batches a get reads, in order, what it compares in their pages, and how its answer follows from them, or from the buffer.
+use Prim.Native.Nat.{ℕ, _+_, _<_}
 use mathlib.Core.Bool.{Bool, true, cond, not, _&&_}
 use mathlib.Core.Path.{_≡_}
 use mathlib.Core.List.{List, [], _∷_, _++_}
@@ -7,7 +7,7 @@ use mathlib.Core.Option.{Option, none, some, Option·map}
 use Rattle.model.specs.declared.Geometry.{Geometry}
 use Rattle.model.specs.Search.{isSome}
 use Rattle.model.specs.Keys.{partitionOf, pageOf}
-use Rattle.model.specs.Page.{valueAt, searched, expected}
+use Rattle.model.specs.Page.{valueAt, searched, compared, expected}
 use Rattle.model.specs.DeleteList.{listedAt}
 use Rattle.model.specs.Partition.{headOf, listedOf, listOf, bufferOf, isLive, batchPasses, passing}
 use Rattle.model.specs.Answers.{Areas, Answer, done, found, absent, shown, refused, buffer, batch}
@@ -31,6 +31,21 @@ batchesRead g k p f =
 -- the numbers of the batches whose page a get of k reads, in order
 abbrev pub readBy : Areas → ℕ → List ℕ
 readBy a k = batchesRead (geometryIn a) k (keyPartition a k) (a .flash)
+
+-- of each of these batches the key's page: the entries compared, together
+unfoldable pub comparedIn : Geometry → ℕ → List ℕ → List ℕ → ℕ
+comparedIn g k f [] = 0
+comparedIn g k f (n ∷ ns) = compared k (batchPage g (partitionOf g k) f n (pageOf g k)) + comparedIn g k f ns
+
+-- None for a listed key. Otherwise those of the key's buffer page and of the pages that are read (02, job 8).
+unfoldable pub entriesCompared : Geometry → ℕ → List ℕ → List ℕ → ℕ
+entriesCompared g k p f =
+    cond (isSome (listedAt (listedOf p) k (listOf g p))) 0
+    (compared k (bufferOf g p (pageOf g k)) + comparedIn g k f (batchesRead g k p f))
+
+-- the entries that a get of k compares
+abbrev pub comparedBy : Areas → ℕ → ℕ
+comparedBy a k = entriesCompared (geometryIn a) k (keyPartition a k) (a .flash)
 
 -- live batches of the partition with the bytes p, each below the one before, all below `high`: none stands twice
 abbrev pub LiveFalling : List ℕ → ℕ → List ℕ → Type 0

@@ -25,11 +25,11 @@ then = run start deletedThenFlushed
 -- Batch 1 still passes key 1, and its page still holds it. A get must not read it, and the list has no place for another key.
 -- With batch 3 batch 1 goes, and the place is free again.
 pub old-fault :
-    (replies start deletedThenFlushed ≡ done 0 ∷ done 0 ∷ done 1 ∷ found 10 (tally 1) (batch 1) ∷ done 0 ∷ done 0 ∷ done 1 ∷ [])
+    (replies start deletedThenFlushed ≡ done 0 ∷ done 0 ∷ done 1 ∷ found 10 (tally 1 1) (batch 1) ∷ done 0 ∷ done 0 ∷ done 1 ∷ [])
     × (passing G 1 (partitionIn then 0) ≡ 1 ∷ [])
     × (searched 1 (batchPage G 0 (then .flash) 1 0) ≡ some 1)
     × (replies then (get 1 ∷ del 20 ∷ put 40 30 ∷ flush 0 ∷ get 1 ∷ del 20 ∷ get 20 ∷ [])
-    ≡ absent (tally 0) ∷ refused 14 0 ∷ done 0 ∷ done 1 ∷ absent (tally 0) ∷ done 0 ∷ absent (tally 0) ∷ [])
+    ≡ absent (tally 0 0) ∷ refused 14 0 ∷ done 0 ∷ done 1 ∷ absent (tally 0 0) ∷ done 0 ∷ absent (tally 0 0) ∷ [])
 unfolding computing
 old-fault = (refl, refl, refl, refl)
 
@@ -55,12 +55,12 @@ pub drop-fault :
     × (passing G 1 (partitionIn less 0) ≡ [])
     × (searched 1 (batchPage G 0 (less .flash) 1 0) ≡ some 1)
     × (replies less putAgain
-    ≡ absent (tally 0) ∷ done 0 ∷ found 11 (tally 0) buffer ∷ done 1 ∷ found 11 (tally 1) (batch 3) ∷ found 20 (tally 1) (batch 2) ∷ done 0 ∷ done 0 ∷ done 1 ∷ [])
+    ≡ absent (tally 0 0) ∷ done 0 ∷ found 11 (tally 0 1) buffer ∷ done 1 ∷ found 11 (tally 1 1) (batch 3) ∷ found 20 (tally 1 1) (batch 2) ∷ done 0 ∷ done 0 ∷ done 1 ∷ [])
     × (passing G 1 (partitionIn edge 0) ≡ 3 ∷ [])
     × (searched 1 (batchPage G 0 (edge .flash) 3 0) ≡ some 1)
     × (replies edge (del 40 ∷ get 1 ∷ put 60 50 ∷ flush 0 ∷ get 1 ∷ del 40 ∷ get 40 ∷ [])
-    ≡ refused 14 0 ∷ absent (tally 0) ∷ done 0 ∷ done 1 ∷ absent (tally 0) ∷ done 0 ∷ absent (tally 0) ∷ [])
+    ≡ refused 14 0 ∷ absent (tally 0 0) ∷ done 0 ∷ done 1 ∷ absent (tally 0 0) ∷ done 0 ∷ absent (tally 0 0) ∷ [])
     × (replies edge (drop 0 ∷ get 1 ∷ del 40 ∷ get 40 ∷ drop 0 ∷ drop 0 ∷ [])
-    ≡ done 0 ∷ absent (tally 0) ∷ done 0 ∷ absent (tally 0) ∷ done 0 ∷ refused 23 0 ∷ [])
+    ≡ done 0 ∷ absent (tally 0 0) ∷ done 0 ∷ absent (tally 0 0) ∷ done 0 ∷ refused 23 0 ∷ [])
 unfolding computing
 drop-fault = (refl, refl, refl, refl, refl, refl, refl, refl, refl)
