@@ -12,35 +12,20 @@ use Rattle.model.specs.declared.Geometry.{Geometry}
 use Rattle.model.specs.Search.{isSome}
 use Rattle.model.specs.Keys.{partitionOf, pageOf}
 use Rattle.model.specs.Records.{keyAt}
-use Rattle.model.specs.Page.{searched, expected}
+use Rattle.model.specs.Page.{searched, compared, expected}
 use Rattle.model.specs.Partition.{headOf, flushesOf, bufferOf, liveOf, isLive, batchPasses, passingFrom}
 use Rattle.model.specs.Batch.{batchPage}
-use Rattle.model.specs.Answers.{Place, Tally, tally, pageRead, Answer, done, found, absent, shown, refused, buffer, batch}
-use Rattle.model.specs.Get.{hitIn, readThrough}
+use Rattle.model.specs.Answers.{Place, Tally, tally, Answer, refused, buffer, batch}
+use Rattle.model.specs.Get.{hitIn, reported, readThrough}
 use Rattle.model.specs.PartitionText.{sourcePage, isFoundIn, isAt, answersIn, answersWith}
 use Rattle.model.proofs.Heads.{live-bounds}
-use Rattle.model.proofs.Lookup.{read-none, read-batch}
+use Rattle.model.proofs.Lookup.{withPage, read-none, read-batch}
 use Rattle.model.proofs.Passing.{pass-take, pass-skip, pass-end}
 use Rattle.model.proofs.Sizes.{page-of-lt}
 use Rattle.model.proofs.Tests.{either}
 use Rattle.answering.specs.Younger.{readAmong, soughtAmong, isAbsent}
 use Rattle.sources.specs.Readable.{Readable}
 use Rattle.sources.proofs.Sources.{batch-expected}
-
--- ---- a walk through the batches that pass is one through the younger of them, then through the others
--- an answer, or where it is none what is asked after its cost
-abbrev continued : Answer → (Tally → Answer) → Answer
-continued (absent c) later = later c
-continued (found v c place) later = found v c place
-continued (done n) later = done n
-continued (shown s) later = shown s
-continued (refused n r) later = refused n r
-
-on-page : (b : Bool) (o : Option ℕ) (page : List ℕ) (c : Tally) (n : ℕ) (rest first : Answer) (later : Tally → Answer) → rest ≡ continued first later
-    → cond b (hitIn page c (batch n) o rest) (refused 13 (c .reads)) ≡ continued (cond b (hitIn page c (batch n) o first) (refused 13 (c .reads))) later
-on-page false o page c n rest first later e = refl
-on-page true (some i) page c n rest first later e = refl
-on-page true none page c n rest first later e = e
 
 module _ (g : Geometry) (k : ℕ) (p f : List ℕ) where
   abbrev walk : ℕ → ℕ → Tally → Answer
@@ -52,22 +37,11 @@ module _ (g : Geometry) (k : ℕ) (p f : List ℕ) where
   abbrev isWhole : ℕ → Bool
   isWhole n = expected g (partitionOf g k) n (pageOf g k) (page n)
 
-  read-on : (count more n : ℕ) (c : Tally) → walk (count + more) n c ≡ continued (walk count n c) (walk more (n - count))
-  read-on zero more n c = rw (zero-add, sub-zero, pass-end g k p 0 n (omega arith), read-none g k f c)
-  read-on (suc count) more n c =
-      let e : suc count + more - 1 ≡ count + more = omega arith in
-      let d : suc count - 1 ≡ count = omega arith in
-      let m : n - suc count ≡ n - 1 - count = omega arith in
-      either (batchPasses g k p n)
-      (λ h. rw (pass-take g k p (suc count + more) n (omega arith) h, pass-take g k p (suc count) n (omega arith) h, e, d, m, read-batch g k f n (passingFrom g k p (count + more) (n - 1)) c, read-batch g k f n (passingFrom g k p count (n - 1)) c)
-      (on-page (isWhole n) (searched k (page n)) (page n) (pageRead c) n (walk (count + more) (n - 1) (pageRead c)) (walk count (n - 1) (pageRead c)) (walk more (n - 1 - count)) (read-on count more (n - 1) (pageRead c))))
-      (λ h. rw (pass-skip g k p (suc count + more) n (omega arith) h, pass-skip g k p (suc count) n (omega arith) h, e, d, m) (read-on count more (n - 1) c))
-
   -- ---- it does not answer from a batch that it does not come to
-  not-on-page : (n : ℕ) (b : Bool) (o : Option ℕ) (page : List ℕ) (c : Tally) (m : ℕ) (rest : Answer) → eqb n m ≡ false → isFoundIn (batch n) rest ≡ false → isFoundIn (batch n) (cond b (hitIn page c (batch m) o rest) (refused 13 (c .reads))) ≡ false
-  not-on-page n false o page c m rest other e = refl
-  not-on-page n true (some i) page c m rest other e = other
-  not-on-page n true none page c m rest other e = e
+  not-on-page : (n : ℕ) (b : Bool) (o : Option ℕ) (page : List ℕ) (c : Tally) (reads m : ℕ) (rest : Answer) → eqb n m ≡ false → isFoundIn (batch n) rest ≡ false → isFoundIn (batch n) (cond b (hitIn page c (batch m) o rest) (refused 13 reads)) ≡ false
+  not-on-page n false o page c reads m rest other e = refl
+  not-on-page n true (some i) page c reads m rest other e = other
+  not-on-page n true none page c reads m rest other e = e
 
   elsewhere : (n count m : ℕ) (c : Tally) → ((i : ℕ) → i < count → n ≡ m - i → ⊥) → isFoundIn (batch n) (walk count m c) ≡ false
   elsewhere n zero m c out = rw (pass-end g k p 0 m (omega arith), read-none g k f c)
@@ -76,29 +50,43 @@ module _ (g : Geometry) (k : ℕ) (p f : List ℕ) where
       let other : n ≡ m → ⊥ = λ e. out 0 (omega arith) (omega arith) in
       let older : (i : ℕ) → i < count → n ≡ m - 1 - i → ⊥ = λ i l e. out (i + 1) (omega arith) (omega arith) in
       either (batchPasses g k p m)
-      (λ h. rw (pass-take g k p (suc count) m (omega arith) h, d, read-batch g k f m (passingFrom g k p count (m - 1)) c) (not-on-page n (isWhole m) (searched k (page m)) (page m) (pageRead c) m (walk count (m - 1) (pageRead c)) (ne-eqb n m other) (elsewhere n count (m - 1) (pageRead c) older)))
+      (λ h. rw (pass-take g k p (suc count) m (omega arith) h, d, read-batch g k f m (passingFrom g k p count (m - 1)) c) (not-on-page n (isWhole m) (searched k (page m)) (page m) _ _ m (walk count (m - 1) (withPage g k f m c)) (ne-eqb n m other) (elsewhere n count (m - 1) (withPage g k f m c) older)))
       (λ h. rw (pass-skip g k p (suc count) m (omega arith) h, d) (elsewhere n count (m - 1) c older))
 
--- ---- whether batch n answers, b being whether its filter passes, by the answer of all that is younger
-module _ (n : ℕ) (b : Bool) where
-  behind-buffer : (o : Option ℕ) (page : List ℕ) (rest first : Answer) → isFoundIn (batch n) rest ≡ isAbsent first && b → isFoundIn (batch n) (hitIn page (tally 0) buffer o rest) ≡ isAbsent (hitIn page (tally 0) buffer o first) && b
-  behind-buffer (some i) page rest first e = refl
-  behind-buffer none page rest first e = e
+  -- ---- where batch n stands behind so many younger ones, it answers as by itself, if these do not: b is whether it does, whatever the cost
+  module _ (n : ℕ) (b : Bool) where
+    behind-page : (whole : Bool) (o : Option ℕ) (page : List ℕ) (c : Tally) (reads m : ℕ) (rest first : Answer) → eqb n m ≡ false → isFoundIn (batch n) rest ≡ isAbsent first && b
+        → isFoundIn (batch n) (cond whole (hitIn page c (batch m) o rest) (refused 13 reads)) ≡ isAbsent (cond whole (hitIn page c (batch m) o first) (refused 13 reads)) && b
+    behind-page false o page c reads m rest first other e = refl
+    behind-page true (some i) page c reads m rest first other e = other
+    behind-page true none page c reads m rest first other e = e
 
-  behind-younger : (first : Answer) (later : Tally → Answer) → isFoundIn (batch n) first ≡ false → ((c : Tally) → isFoundIn (batch n) (later c) ≡ b) → isFoundIn (batch n) (continued first later) ≡ isAbsent first && b
-  behind-younger (absent c) later e own = own c
-  behind-younger (found v c place) later e own = e
-  behind-younger (done m) later e own = refl
-  behind-younger (shown s) later e own = refl
-  behind-younger (refused m r) later e own = refl
+    behind-younger : (count more m : ℕ) (c : Tally) → ((i : ℕ) → i < count → n ≡ m - i → ⊥) → ((c : Tally) → isFoundIn (batch n) (walk more (m - count) c) ≡ b) → isFoundIn (batch n) (walk (count + more) m c) ≡ isAbsent (walk count m c) && b
+    behind-younger zero more m c out own = rw (zero-add, pass-end g k p 0 m (omega arith), read-none g k f c) (rw sub-zero at (own c))
+    behind-younger (suc count) more m c out own =
+        let other : n ≡ m → ⊥ = λ x. out 0 (omega arith) (omega arith) in
+        let older : (i : ℕ) → i < count → n ≡ m - 1 - i → ⊥ = λ i l x. out (i + 1) (omega arith) (omega arith) in
+        let s : m - suc count ≡ m - 1 - count = omega arith in
+        let later : (c : Tally) → isFoundIn (batch n) (walk (count + more) (m - 1) c) ≡ isAbsent (walk count (m - 1) c) && b = λ c. behind-younger count more (m - 1) c older (λ c. rw (← s) (own c)) in
+        let e : suc count + more - 1 ≡ count + more = omega arith in
+        let d : suc count - 1 ≡ count = omega arith in
+        either (batchPasses g k p m)
+        (λ h. rw (pass-take g k p (suc count + more) m (omega arith) h, pass-take g k p (suc count) m (omega arith) h, e, d, read-batch g k f m (passingFrom g k p (count + more) (m - 1)) c, read-batch g k f m (passingFrom g k p count (m - 1)) c)
+        (behind-page (isWhole m) (searched k (page m)) (page m) _ _ m (walk (count + more) (m - 1) (withPage g k f m c)) (walk count (m - 1) (withPage g k f m c)) (ne-eqb n m other) (later (withPage g k f m c))))
+        (λ h. rw (pass-skip g k p (suc count + more) m (omega arith) h, pass-skip g k p (suc count) m (omega arith) h, e, d) (later c))
+
+-- ---- whether batch n answers, b being whether its filter passes, by the answer of all that is younger
+behind-buffer : (n : ℕ) (b : Bool) (o : Option ℕ) (page : List ℕ) (c : Tally) (rest first : Answer) → isFoundIn (batch n) rest ≡ isAbsent first && b → isFoundIn (batch n) (hitIn page c buffer o rest) ≡ isAbsent (hitIn page c buffer o first) && b
+behind-buffer n b (some i) page c rest first e = refl
+behind-buffer n b none page c rest first e = e
 
 -- ---- the key's own page of the buffer holds it
-in-buffer : (o : Option ℕ) (page : List ℕ) (rest : Answer) → isSome o ≡ true → isFoundIn buffer (hitIn page (tally 0) buffer o rest) ≡ true
-in-buffer none page rest e = absurd (false≢true e)
-in-buffer (some i) page rest e = refl
+in-buffer : (o : Option ℕ) (page : List ℕ) (c : Tally) (rest : Answer) → isSome o ≡ true → isFoundIn buffer (hitIn page c buffer o rest) ≡ true
+in-buffer none page c rest e = absurd (false≢true e)
+in-buffer (some i) page c rest e = refl
 
 pub from-buffer : (g : Geometry) (count k : ℕ) (p f : List ℕ) → isSome (searched k (bufferOf g p (pageOf g k))) ≡ true → isFoundIn buffer (soughtAmong g count k p f) ≡ true
-from-buffer g count k p f e = in-buffer (searched k (bufferOf g p (pageOf g k))) (bufferOf g p (pageOf g k)) (readThrough g k f (passingFrom g k p count (flushesOf p)) (tally 0)) e
+from-buffer g count k p f e = in-buffer (searched k (bufferOf g p (pageOf g k))) (bufferOf g p (pageOf g k)) (tally 0 (compared k (bufferOf g p (pageOf g k)))) (readAmong g count k p f) e
 
 -- ---- batch n is live and holds the key
 found-here : (n : ℕ) (o : Option ℕ) (page : List ℕ) (c : Tally) (rest : Answer) → isSome o ≡ true → isFoundIn (batch n) (hitIn page c (batch n) o rest) ≡ true
@@ -110,7 +98,7 @@ module _ (g : Geometry) (t : ℕ) (p f : List ℕ) (r : Readable g t p f) (n : �
   from-own more c l =
       let first = live-bounds (headOf p) n alive .0 in
       either (batchPasses g k p n)
-      (λ h. rw (pass-take g k p more n l h, read-batch g k f n (passingFrom g k p (more - 1) (n - 1)) c, own, batch-expected g t p f r n (pageOf g k) alive (page-of-lt g (r .whole .fine) k), h) (found-here n (searched k (batchPage g t f n (pageOf g k))) (batchPage g t f n (pageOf g k)) (pageRead c) (walk g k p f (more - 1) (n - 1) (pageRead c)) holds))
+      (λ h. rw (pass-take g k p more n l h, read-batch g k f n (passingFrom g k p (more - 1) (n - 1)) c, own, batch-expected g t p f r n (pageOf g k) alive (page-of-lt g (r .whole .fine) k), h) (found-here n (searched k (batchPage g t f n (pageOf g k))) (batchPage g t f n (pageOf g k)) _ _ holds))
       (λ h. rw (pass-skip g k p more n l h, h) (elsewhere g k p f n (more - 1) (n - 1) c (λ i j e. omega (arith, first, e))))
 
   pub asked : isFoundIn (batch n) (soughtAmong g (liveOf p) k p f) ≡ isAbsent (soughtAmong g (flushesOf p - n) k p f) && batchPasses g k p n
@@ -119,11 +107,11 @@ module _ (g : Geometry) (t : ℕ) (p f : List ℕ) (r : Readable g t p f) (n : �
       let e : liveOf p ≡ flushesOf p - n + (liveOf p - (flushesOf p - n)) = omega (arith, b) in
       let m : flushesOf p - (flushesOf p - n) ≡ n = omega (arith, b) in
       let more : 0 < liveOf p - (flushesOf p - n) = omega (arith, b) in
-      let rest = walk g k p f (liveOf p - (flushesOf p - n)) (flushesOf p - (flushesOf p - n)) in
-      behind-buffer n (batchPasses g k p n) (searched k (bufferOf g p (pageOf g k))) (bufferOf g p (pageOf g k)) (walk g k p f (liveOf p) (flushesOf p) (tally 0)) (walk g k p f (flushesOf p - n) (flushesOf p) (tally 0))
-      (ap (λ (x : ℕ). isFoundIn (batch n) (walk g k p f x (flushesOf p) (tally 0))) e
-      ∙ ap (isFoundIn (batch n)) (read-on g k p f (flushesOf p - n) (liveOf p - (flushesOf p - n)) (flushesOf p) (tally 0))
-      ∙ behind-younger n (batchPasses g k p n) (walk g k p f (flushesOf p - n) (flushesOf p) (tally 0)) rest (elsewhere g k p f n (flushesOf p - n) (flushesOf p) (tally 0) (λ i j h. omega (arith, b, h)))
+      let page = bufferOf g p (pageOf g k) in
+      let cost : Tally = tally 0 (compared k page) in
+      behind-buffer n (batchPasses g k p n) (searched k page) page cost (walk g k p f (liveOf p) (flushesOf p) cost) (walk g k p f (flushesOf p - n) (flushesOf p) cost)
+      (ap (λ (x : ℕ). isFoundIn (batch n) (walk g k p f x (flushesOf p) cost)) e
+      ∙ behind-younger g k p f n (batchPasses g k p n) (flushesOf p - n) (liveOf p - (flushesOf p - n)) (flushesOf p) cost (λ i j h. omega (arith, b, h))
       (λ c. rw m (from-own (liveOf p - (flushesOf p - n)) c more)))
 
 -- ---- the younger batches one by one, from the youngest on: what those down to `next` answer after some cost
@@ -132,7 +120,7 @@ pub record Asking (g : Geometry) (k : ℕ) (p f : List ℕ) (n next : ℕ) : Typ
   pub same : isAbsent (readAmong g (flushesOf p - n) k p f) ≡ isAbsent (walk g k p f (next - n) next cost)
 
 pub asking-all : (g : Geometry) (k : ℕ) (p f : List ℕ) (n next : ℕ) → next ≡ flushesOf p → Asking g k p f n next
-asking-all g k p f n next e = record { cost = tally 0; same = rw e }
+asking-all g k p f n next e = record { cost = tally 0 (compared k (bufferOf g p (pageOf g k))); same = rw e }
 
 module _ {g : Geometry} {k : ℕ} {p f : List ℕ} {n next : ℕ} (asking : Asking g k p f n next) where
   -- none is left
@@ -146,7 +134,7 @@ module _ {g : Geometry} {k : ℕ} {p f : List ℕ} {n next : ℕ} (asking : Aski
     -- the next one: whether its filter passes, and what its page holds
     module _ (t : ℕ) (own : partitionOf g k ≡ t) (whole : expected g t next (pageOf g k) (batchPage g t f next (pageOf g k)) ≡ true) where
       read-next : (b : Bool) (o : Option ℕ) → batchPasses g k p next ≡ b → searched k (batchPage g t f next (pageOf g k)) ≡ o
-          → isAbsent (readAmong g (flushesOf p - n) k p f) ≡ isAbsent (cond b (hitIn (batchPage g t f next (pageOf g k)) (pageRead (asking .cost)) (batch next) o (walk g k p f (next - 1 - n) (next - 1) (pageRead (asking .cost)))) (walk g k p f (next - 1 - n) (next - 1) (asking .cost)))
+          → isAbsent (readAmong g (flushesOf p - n) k p f) ≡ isAbsent (cond b (hitIn (batchPage g t f next (pageOf g k)) (reported g (withPage g k f next (asking .cost))) (batch next) o (walk g k p f (next - 1 - n) (next - 1) (withPage g k f next (asking .cost)))) (walk g k p f (next - 1 - n) (next - 1) (asking .cost)))
       read-next false o h e = asking .same ∙ rw (pass-skip g k p (next - n) next (omega arith) h, one-less)
       read-next true o h e = asking .same ∙ rw (pass-take g k p (next - n) next (omega arith) h, one-less, read-batch g k f next (passingFrom g k p (next - 1 - n) (next - 1)) (asking .cost), own, whole, e)
 
@@ -163,7 +151,7 @@ module _ {g : Geometry} {k : ℕ} {p f : List ℕ} {n next : ℕ} (asking : Aski
         where
           go : (b : Bool) (o : Option ℕ) → batchPasses g k p next ≡ b → searched k (batchPage g t f next (pageOf g k)) ≡ o → b && isSome o ≡ false → Asking g k p f n (next - 1)
           go false o h e x = record { cost = asking .cost; same = read-next false o h e }
-          go true none h e x = record { cost = pageRead (asking .cost); same = read-next true none h e }
+          go true none h e x = record { cost = withPage g k f next (asking .cost); same = read-next true none h e }
           go true (some i) h e x = absurd (false≢true (sym x))
 
 -- ---- an entry with the key, by the first entry of its page with it

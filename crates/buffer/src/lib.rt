@@ -1,11 +1,11 @@
 // The buffer pages of a partition, which are lent here and nowhere else.
 ghost use mathlib.Core.Bool.{true, false};
 ghost use mathlib.Core.Path.{_≡_};
-ghost use Prim.Native.Nat.{_+_, _*_, _≤_, _<_};
+ghost use Prim.Native.Nat.{_+_, _*_, _^_, _≤_, _<_};
 ghost use Rattle.model.specs.Bytes.{within};
 ghost use Rattle.model.specs.Geometry.{allowed, partitions, capacity, bufferAt};
 ghost use Rattle.model.specs.Keys.{pageOf};
-ghost use Rattle.model.specs.Page.{countOf, valueAt, searched, taken, emptied};
+ghost use Rattle.model.specs.Page.{countOf, valueAt, searched, compared, taken, emptied};
 ghost use Rattle.model.specs.Partition.{bufferOf};
 ghost use Rattle.model.specs.Refusals.{pageOverfull, keyOverfull, somePageOverfull};
 ghost use Rattle.model.specs.Format.{emptiedPages};
@@ -14,8 +14,10 @@ ghost use Rattle.model.specs.Put.{appends, buffered};
 ghost use Rattle.model.specs.Del.{unbuffered};
 ghost use Rattle.records.specs.Found.{foundAt};
 ghost use Rattle.partition.specs.Ready.{Whole, Storable};
+use answers::Tally;
 use head::Head;
 use model::Geometry;
+use page_search::Searched;
 use records::Found;
 
 // The count of page q.
@@ -82,6 +84,19 @@ pub fn find(part: &[u8], g: Geometry, q: u32, key: u64) -> Found
     let a = geometry::buffer_at(g, q);
     let e = a + g.page as usize;
     page::search(&part[a..e], key)
+}
+
+// The same with a tally, which grows by what the search compares.
+pub fn search(part: &[u8], g: Geometry, q: u32, key: u64, tally: Tally) -> Searched
+    requires { ⌜ Whole g (now part) ⌝ }
+    requires { ⌜ q < g .pages ⌝ }
+    requires { ⌜ countOf (bufferOf g (now part) q) ≤ capacity g ⌝ }
+    requires { ⌜ tally .comparisons + capacity g < 2 ^ 32 ⌝ }
+    ensures { λ r. ⌜ (foundAt (r .found) ≡ searched key (bufferOf g (now (part .entry)) q)) × (r .tally .reads ≡ tally .reads) × (r .tally .comparisons ≡ tally .comparisons + compared key (bufferOf g (now (part .entry)) q)) ⌝ }
+{
+    let a = geometry::buffer_at(g, q);
+    let e = a + g.page as usize;
+    page_search::search_with(&part[a..e], key, tally)
 }
 
 // The value of entry i of page q.

@@ -14,13 +14,16 @@ use head::Head;
 use model::Geometry;
 use records::Found;
 
-// The first entry of the key.
+// The first entry of the key. Most lists are empty, and only one that is not is searched.
 pub fn find(part: &[u8], g: Geometry, key: u64) -> Found
     requires { ⌜ Whole g (now part) ⌝ }
     requires { ⌜ headOverfull g (headOf (now part)) ≡ false ⌝ }
     ensures { λ r. ⌜ foundAt r ≡ listedAt (listedOf (now (part .entry))) key (listOf g (now (part .entry))) ⌝ }
 {
     let n = Head::read(part).listed as usize;
+    if n == 0 {
+        return Found::Nothing;
+    }
     let e = 16 + 16 * g.list as usize;
     deletes::find(&part[16..e], n, key)
 }

@@ -1,104 +1,93 @@
--- The whole answer of a get from flash is at all times the answer from here on: each step through the batches and through a page's entries keeps it so.
-use Prim.Native.Nat.{ℕ, _+_, _-_, _*_, _≤_, _<_}
+-- The whole answer of a get from flash is at all times the answer from here on: each batch that is passed over or searched keeps it so.
+use Prim.Native.Nat.{ℕ, _+_, _-_, _^_, _≤_, _<_}
 use mathlib.Core.Bool.{Bool, true, false}
 use mathlib.Core.List.{List}
-use mathlib.Core.Path.{_≡_, sym, _∙_}
-use native.Mathlib.Nat.{add-zero, add-assoc}
+use mathlib.Core.Option.{Option, none, some}
+use mathlib.Core.Path.{_≡_, refl, sym, _∙_, ap, ap₂}
 use native.Mathlib.Omega.{arith}
-use lib.Dec.{eqb}
-use borrow.Author.Tests.{eq-eqb, ne-eqb}
+use borrow.Author.Tests.{eqb-true}
 use Rattle.model.specs.declared.Geometry.{Geometry}
-use Rattle.model.specs.Bytes.{word, mid}
-use Rattle.model.specs.Search.{firstFrom}
-use Rattle.model.specs.Geometry.{allowed, partitions, slotPageAt, flashNeed}
-use Rattle.model.specs.Keys.{mixed, partitionOf, pageOf}
+use Rattle.model.specs.Bytes.{mid}
+use Rattle.model.specs.Geometry.{allowed, slotPageAt, flashNeed}
+use Rattle.model.specs.Keys.{partitionOf, pageOf}
 use Rattle.model.specs.Records.{keyAt}
-use Rattle.model.specs.Page.{countOf, expected}
-use Rattle.model.specs.Filter.{passes}
-use Rattle.model.specs.Partition.{flushesOf, liveOf, slot, slotBits, batchPasses, passing, passingFrom}
-use Rattle.model.specs.Answers.{Answer, found, absent, refused, tally, batch}
+use Rattle.model.specs.Page.{countOf, searched, compared, expected}
+use Rattle.model.specs.Partition.{flushesOf, liveOf, slot, batchPasses, passing, passingFrom}
+use Rattle.model.specs.Answers.{Tally, tally, pageRead, Answer, absent, refused, batch}
 use Rattle.model.specs.Get.{hitIn, readThrough}
-use Rattle.model.proofs.Passing.{pass-take, pass-skip, pass-end, batch-asked, passing-from}
-use Rattle.model.proofs.Lookup.{expected-fits, read-none, read-batch}
-use Rattle.model.proofs.Searching.{first-here, first-next, first-end, first-behind}
-use Rattle.model.proofs.Sizes.{sizes, slot-lt, slot-page-fits, flash-max}
-use Rattle.model.proofs.Words.{word-mid}
-use Rattle.records.specs.Lacking.{Lacking}
+use Rattle.model.proofs.Passing.{pass-take, pass-skip, pass-end, passing-from}
+use Rattle.model.proofs.Lookup.{reads-each, read-none, read-batch}
+use Rattle.model.proofs.Searching.{first-at}
+use Rattle.model.proofs.Sizes.{partition-of-lt, page-of-lt, slot-lt, slot-page-fits, flash-max}
+use Rattle.lookup.specs.Stop.{stopAt}
 
-module _ (g : Geometry) (ok : allowed g ≡ true) (at : ℕ) where
-  -- a page of flash opens with its count
-  count-in : (f : List ℕ) → countOf (mid at (g .page) f) ≡ word 2 f at
-  count-in f = let z = sizes g ok in let small : 0 + 2 ≤ g .page = omega arith in rw (word-mid 2 f at (g .page) 0 small, add-zero)
+-- ---- the key's page of batch n, and where it lies
+module _ (g : Geometry) (k n : ℕ) where
+  abbrev pub spotOf : ℕ
+  spotOf = slotPageAt g (partitionOf g k) (slot g n) (pageOf g k)
 
-  -- where the page of batch n lies
-  pub page-in-flash : (t n q : ℕ) → t < partitions g → q < g .pages → at ≡ slotPageAt g t (slot g n) q → (at + g .page ≤ flashNeed g) × (at + g .page ≤ 2147483648)
-  page-in-flash t n q lt lq e = let h = slot-page-fits g t (slot g n) q lt (slot-lt g ok n) lq in (omega arith, omega (arith, flash-max g ok))
+  abbrev pub pageIn : List ℕ → List ℕ
+  pageIn f = mid spotOf (g .page) f
 
-module _ (g : Geometry) (k : ℕ) (p f : List ℕ) where
+  abbrev pub Expected : List ℕ → Bool
+  Expected f = expected g (partitionOf g k) n (pageOf g k) (pageIn f)
+
+  pub spot-fits : allowed g ≡ true → k < 2 ^ 64 → (spotOf + g .page ≤ flashNeed g) × (spotOf + g .page ≤ 2147483648)
+  spot-fits ok l = let h = slot-page-fits g _ _ _ (partition-of-lt g ok k l) (slot-lt g ok n) (page-of-lt g ok k) in (h, omega (arith, h, flash-max g ok))
+
+-- ---- where a search stopped: at the entry that it found, or behind the used ones
+module _ (k : ℕ) (page : List ℕ) (i : ℕ) (stopped : i ≡ stopAt (searched k page) (countOf page)) where
+  pub stopped-at : i ≤ countOf page → searched k page ≡ some i
+  stopped-at l = go (searched k page) refl
+    where
+      go : (o : Option ℕ) → searched k page ≡ o → searched k page ≡ some i
+      go (some j) e = let s : i ≡ j = rw e at stopped in e ∙ ap some (sym s)
+      go none e = let s : i ≡ countOf page + 1 = rw e at stopped in absurd (omega arith)
+
+  -- so the entry there has the key
+  pub stopped-key : i ≤ countOf page → keyAt page i ≡ k
+  stopped-key l = eqb-true _ _ (first-at _ _ _ _ (stopped-at l) .passed)
+
+  pub stopped-behind : countOf page < i → searched k page ≡ none
+  stopped-behind l = go (searched k page) refl
+    where
+      go : (o : Option ℕ) → searched k page ≡ o → searched k page ≡ none
+      go (some j) e = let s : i ≡ j = rw e at stopped in absurd (omega (arith, first-at _ _ _ _ e .high))
+      go none e = e
+
+-- ---- the answer after what was already spent
+module _ (g : Geometry) (k : ℕ) (p f : List ℕ) (already : Tally) where
   abbrev pub whole : Answer
-  whole = readThrough g k f (passing g k p) (tally 0)
+  whole = readThrough g k f (passing g k p) already
 
-  -- of so many batches, from batch n down, after so many reads
-  abbrev pub AtBatch : ℕ → ℕ → ℕ → Type 0
-  AtBatch count n reads = whole ≡ readThrough g k f (passingFrom g k p count n) (tally reads)
+  -- of the batches from n down to the one above `last`, after a cost
+  abbrev pub AtBatch : ℕ → ℕ → Tally → Type 0
+  AtBatch last n cost = whole ≡ readThrough g k f (passingFrom g k p (n - last) n) cost
 
-  pub at-start : (count n : ℕ) → count ≡ liveOf p → n ≡ flushesOf p → AtBatch count n 0
-  at-start count n ec en = rw (passing-from g k p, ec, en)
+  -- of the search of this page, of batch n, then of the batches before it
+  abbrev pub AtPage : ℕ → ℕ → Tally → List ℕ → Type 0
+  AtPage last n cost page = whole ≡ hitIn page cost (batch n) (searched k page) (readThrough g k f (passingFrom g k p (n - 1 - last) (n - 1)) cost)
 
-  -- the filter that is asked is that of batch n
-  pub own-filter : (n x j : ℕ) (b : Bool) → b ≡ passes g x (slotBits g p j) → x ≡ mixed k → j ≡ slot g n → b ≡ batchPasses g k p n
-  own-filter n x j b eb ex ej = rw (eb, ex, ej, batch-asked g k p n)
+  module _ (last n : ℕ) where
+    pub at-start : n - last ≡ liveOf p → n ≡ flushesOf p → AtBatch last n already
+    at-start el en = rw (passing-from g k p, el, en)
 
-  -- ---- of the entries from i on of the page at `at`, of batch n, then of the batches that are left
-  unfoldable pub entriesFrom : ℕ → ℕ → ℕ → ℕ → ℕ → ℕ → ℕ → Answer
-  entriesFrom count next reads n at end i = hitIn (mid at (g .page) f) (tally reads) (batch n) (firstFrom (end - i) i (λ r. eqb (keyAt (mid at (g .page) f) r) k)) (readThrough g k f (passingFrom g k p count next) (tally reads))
+    module _ (cost : Tally) (from : AtBatch last n cost) where
+      pub at-end : n ≤ last → whole ≡ absent cost
+      at-end l = from ∙ rw (pass-end g k p (n - last) n (omega arith), read-none, reads-each)
 
-  module _ (count next reads n at end : ℕ) where
-    abbrev pub AtEntry : ℕ → Type 0
-    AtEntry i = whole ≡ entriesFrom count next reads n at end i
+      module _ (l : last < n) where
+        fewer : n - last - 1 ≡ n - 1 - last
+        fewer = omega arith
 
-    -- the entries that are passed over lack the key
-    pub at-behind : (entries r : ℕ) → AtEntry 1 → end ≡ entries + 1 → 16 + 16 * entries ≤ g .page → Lacking k (at + 16) f entries r → AtEntry (1 + r)
-    unfolding entriesFrom
-    at-behind entries r from e fits h =
-        let d : end - 1 - r ≡ end - (1 + r) = omega arith in
-        let lack : (j : ℕ) → j < r → eqb (keyAt (mid at (g .page) f) (1 + j)) k ≡ false = λ j l. (let a : at + 16 * (1 + j) ≡ at + 16 + 16 * j = omega arith in rw (word-mid 8 f at (g .page) (16 * (1 + j)) (omega (arith, h .within)), a) (h .lack j l)) in
-        from ∙ rw (first-behind (λ i. eqb (keyAt (mid at (g .page) f) i) k) (end - 1) 1 r lack (omega (arith, h .within)), d)
+        pub at-skip : batchPasses g k p n ≡ false → AtBatch last (n - 1) cost
+        at-skip h = from ∙ rw (pass-skip g k p (n - last) n (omega arith) h, fewer)
 
-    module _ (i : ℕ) (from : AtEntry i) where
-      pub at-hit : i < end → 16 * i + 16 ≤ g .page → word 8 f (at + 16 * i) ≡ k → whole ≡ found (word 8 f (at + 16 * i + 8)) (tally reads) (batch n)
-      unfolding entriesFrom
-      at-hit l h e =
-          let e′ = eq-eqb (keyAt (mid at (g .page) f) i) k (word-mid 8 f at (g .page) (16 * i) (omega arith) ∙ e) in
-          from ∙ rw (first-here (λ r. eqb (keyAt (mid at (g .page) f) r) k) end i l e′, word-mid 8 f at (g .page) (16 * i + 8) (omega arith), add-assoc)
+        module _ (h : batchPasses g k p n ≡ true) where
+          pub at-bad : Expected g k n f ≡ false → whole ≡ refused 13 (cost .reads + 1)
+          at-bad x = from ∙ rw (pass-take g k p (n - last) n (omega arith) h, read-batch, x, reads-each)
 
-      pub at-next : i < end → 16 * i + 8 ≤ g .page → (word 8 f (at + 16 * i) ≡ k → ⊥) → AtEntry (i + 1)
-      unfolding entriesFrom
-      at-next l h e =
-          let e′ = ne-eqb (keyAt (mid at (g .page) f) i) k (λ z. e (sym (word-mid 8 f at (g .page) (16 * i) h) ∙ z)) in
-          from ∙ rw (first-next (λ r. eqb (keyAt (mid at (g .page) f) r) k) end i l e′)
-
-      pub at-last : end ≤ i → AtBatch count next reads
-      unfolding entriesFrom
-      at-last l = from ∙ rw (first-end (λ r. eqb (keyAt (mid at (g .page) f) r) k) end i l)
-
-  -- ---- of the batches from n on
-  module _ (count n reads : ℕ) (from : AtBatch count n reads) where
-    pub at-end : count ≤ 0 → whole ≡ absent (tally reads)
-    at-end l = from ∙ rw (pass-end g k p count n l, read-none)
-
-    module _ (l : 0 < count) where
-      pub at-skip : batchPasses g k p n ≡ false → AtBatch (count - 1) (n - 1) reads
-      at-skip h = from ∙ rw (pass-skip g k p count n l h)
-
-      -- the filter passes: b is whether the key's page of that batch is as expected
-      module _ (h : batchPasses g k p n ≡ true) (t q at : ℕ) (et : t ≡ partitionOf g k) (eq : q ≡ pageOf g k) (ea : at ≡ slotPageAt g t (slot g n) q) (b : Bool) (eb : b ≡ expected g t n q (mid at (g .page) f)) where
-        pub at-bad : b ≡ false → whole ≡ refused 13 (reads + 1)
-        at-bad x = from ∙ rw (pass-take g k p count n l h, read-batch, ← et, ← eq, ← ea, ← eb, x)
-
-        pub at-page : allowed g ≡ true → (entries : ℕ) → entries ≡ word 2 f at → b ≡ true → (16 + 16 * entries ≤ g .page) × AtEntry (count - 1) (n - 1) (reads + 1) n at (entries + 1) 1
-        unfolding entriesFrom
-        at-page ok entries e x =
-            let full = count-in g ok at f in
-            let first : entries + 1 - 1 ≡ countOf (mid at (g .page) f) = omega arith in
-            (omega (arith, expected-fits g t n q (mid at (g .page) f) ok (sym eb ∙ x)), from ∙ rw (pass-take g k p count n l h, read-batch, ← et, ← eq, ← ea, ← eb, x, first))
+          pub at-page : Expected g k n f ≡ true → (after : Tally) → after .reads ≡ cost .reads + 1 → after .comparisons ≡ cost .comparisons + compared k (pageIn g k n f) → AtPage last n after (pageIn g k n f)
+          at-page x after er ec =
+              let e : after ≡ pageRead (compared k (pageIn g k n f)) cost = ap₂ (λ (r m : ℕ). tally r m) er ec in
+              from ∙ rw (pass-take g k p (n - last) n (omega arith) h, read-batch, x, fewer, reads-each, e)

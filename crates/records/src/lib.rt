@@ -30,11 +30,14 @@ fn is_in_block(s: &[u8], at: usize, key: u64) -> bool
     words::u64_at(s, at + 48) == key
 }
 
-// Whole blocks of four records without the key are passed over, of the n records that begin at `at`: nearly all records are other keys.
+// Whole blocks of four records without the key are passed over, of the n records that begin at `at`: nearly all records are other keys. A list, and a small page, mostly has no whole block.
 pub fn skip(s: &[u8], at: usize, key: u64, n: usize) -> usize
     requires { ⌜ at + 16 * n ≤ length (now s) ⌝ }
     ensures { λ r. ⌜ Lacking key at (now (s .entry)) n r ⌝ }
 {
+    if n < 4 {
+        return 0;
+    }
     let whole = 64 * (n / 4);
     let mut passed = 0;
     while passed < whole {

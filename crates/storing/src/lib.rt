@@ -14,16 +14,13 @@ use head::Head;
 use model::Geometry;
 use records::Found;
 
-// The key's first list entry leaves, if it has one. Most lists are empty, and only one that is not is searched.
+// The key's first list entry leaves, if it has one.
 fn unlist(part: &mut [u8], g: Geometry, key: u64)
     requires { ⌜ Whole g (now part) ⌝ }
     requires { ⌜ headOverfull g (headOf (now part)) ≡ false ⌝ }
     ensures { λ _. ⌜ now (part .exit) ≡ unlisted g key (now (part .entry)) ⌝ }
 {
     let head = Head::read(part);
-    if head.listed == 0 {
-        return;
-    }
     match list::find(part, g, key) {
         Found::At(i) => {
             list::strike(part, g, i, head.listed as usize);

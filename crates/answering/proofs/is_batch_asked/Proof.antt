@@ -8,6 +8,7 @@ use borrow.Author.Tests.{not-true, not-false}
 use Rattle.model.specs.Keys.{pageOf}
 use Rattle.model.specs.Partition.{flushesOf, bufferOf, liveOf, batchPasses}
 use Rattle.model.specs.Answers.{tally, buffer, batch}
+use Rattle.model.specs.Page.{compared}
 use Rattle.model.specs.Get.{hitIn}
 use Rattle.model.specs.PartitionText.{isFoundIn}
 use Rattle.model.proofs.Checks.{pages-fit}
@@ -29,7 +30,7 @@ find-requires c κs =
 -- by what the buffer page holds of the key, and what the younger batches answer
 asked-of : (c : tie.After-find) → let a = c .before .before .before .before .args in let page = bufferOf (a .g) (a .part .now) (pageOf (a .g) (a .key)) in
     isFoundIn (batch (a .n)) (soughtAmong (a .g) (liveOf (a .part .now)) (a .key) (a .part .now) (a .flash .now))
-    ≡ isAbsent (hitIn page (tally 0) buffer (foundAt (c .find .result)) (readAmong (a .g) (flushesOf (a .part .now) - a .n) (a .key) (a .part .now) (a .flash .now))) && batchPasses (a .g) (a .key) (a .part .now) (a .n)
+    ≡ isAbsent (hitIn page (tally 0 (compared (a .key) page)) buffer (foundAt (c .find .result)) (readAmong (a .g) (flushesOf (a .part .now) - a .n) (a .key) (a .part .now) (a .flash .now))) && batchPasses (a .g) (a .key) (a .part .now) (a .n)
 asked-of c =
     let s = c .before .before .before .before in
     let p = s .pre in

@@ -17,10 +17,13 @@ loop-holds c = (omega arith, none-passed _ _ _)
 loop-again : tie.Need-loop-again Inv-loop μ-loop
 loop-again c =
     let l = c .before .before .before .loop .inv .1 in
-    (omega (arith, l .size), one-passed _ _ _ _ l (sym (c .before .is-in-block .ensures) ∙ c .if1 .left))
+    (omega (arith, l .size), one-passed _ _ _ _ l (sym (c .before .is-in-block .ensures) ∙ c .if2 .left))
 
 returns : tie.Need-returns Inv-loop μ-loop
-returns c = passed-lacks _ _ _ _ _ (c .before .loop .inv .1) (c .before .loop .inv .0)
+returns c = record { within = omega arith; lack = λ i l. absurd (omega arith) }
+
+returns-2 : tie.Need-returns-2 Inv-loop μ-loop
+returns-2 c = passed-lacks _ _ _ _ _ (c .before .loop .inv .1) (c .before .loop .inv .0)
 
 pub skip-spec : {M : Type 1} → statement M
-skip-spec = tie.close (tie.spec Inv-loop μ-loop (λ c. omega arith) loop-holds (λ c. omega arith) (λ c κs. omega (arith, c .before .loop .inv .1 .size)) (λ c. omega arith) (λ c. omega arith) loop-again returns)
+skip-spec = tie.close (tie.spec Inv-loop μ-loop returns (λ c. omega arith) loop-holds (λ c. omega arith) (λ c κs. omega (arith, c .before .loop .inv .1 .size)) (λ c. omega arith) (λ c. omega arith) loop-again returns-2)
