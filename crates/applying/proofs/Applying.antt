@@ -11,8 +11,8 @@ use Rattle.model.specs.Calls.{Call}
 use Rattle.model.specs.Session.{callOf, answerText}
 use Rattle.model.proofs.Sessions.{length-answer, prints-answer, leaves-after, prints-bad, leaves-same}
 use Rattle.answers.specs.Performs.{areas, Performs}
-use Rattle.printer.specs.Puts.{Puts}
-use Rattle.applying.specs.Applies.{room, Applies}
+use Rattle.printer.specs.Puts.{Puts, room}
+use Rattle.applying.specs.Applies.{Applies}
 
 pub calls : {line : List ℕ} {c : Call} {m f m′ f′ : List ℕ} {r : Answer} {at next : ℕ} {o o′ : List ℕ} → at + room ≤ length o → callOf line ≡ some c → Performs c m f r m′ f′ → Puts (answerText r) at o next o′ → Applies line (areas m f) at o next o′ (areas m′ f′)
 calls {line} {c} {m} {f} {r = r} l e p w = record { fits = omega (arith, w .ends, length-answer r); prints = rw (prints-answer line (areas m f) c e, ← p .answers) w; leaves = p .leaves ∙ sym (leaves-after line (areas m f) c e) }

@@ -7,10 +7,6 @@ use Rattle.model.specs.Answers.{Areas}
 use Rattle.model.specs.Session.{linePrints, lineLeaves}
 use Rattle.printer.specs.Puts.{Puts}
 
--- room for one more answer; none is longer
-abbrev pub room : ℕ
-room = 64
-
 -- one line on the areas a: its answer stands whole from `at` on up to `next`, and it leaves a′
 pub record Applies (line : List ℕ) (a : Areas) (at : ℕ) (before : List ℕ) (next : ℕ) (later : List ℕ) (a′ : Areas) : Type 0 where
   pub fits : next ≤ length before

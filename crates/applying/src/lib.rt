@@ -2,7 +2,8 @@
 ghost use Prim.Native.Nat.{_+_, _≤_};
 ghost use lib.ListN.{length};
 ghost use Rattle.answers.specs.Performs.{areas};
-ghost use Rattle.applying.specs.Applies.{room, Applies};
+ghost use Rattle.printer.specs.Puts.{room};
+ghost use Rattle.applying.specs.Applies.{Applies};
 use printer::write_answer;
 use printer::write_bad;
 use printer::write_written;

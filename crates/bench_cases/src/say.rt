@@ -46,14 +46,14 @@ pub fn bits(filter: u64) {
 
 // An answer as the session prints it, without the byte that ends its line.
 pub fn written(answer: Written) {
-    let mut line = [0u8; 64];
+    let mut line = [0u8; 72];
     let end = printer::write_written(&mut line, 0, answer) - 1;
     text(b" ");
     text(&line[..end]);
 }
 
 pub fn answer(answer: Answer) {
-    let mut line = [0u8; 64];
+    let mut line = [0u8; 72];
     let end = printer::write_answer(&mut line, 0, answer) - 1;
     text(b" ");
     text(&line[..end]);

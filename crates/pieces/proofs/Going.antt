@@ -10,7 +10,8 @@ use Rattle.model.specs.Answers.{Areas}
 use Rattle.model.specs.Session.{linesOf, linesPrint}
 use Rattle.model.proofs.Sessions.{print-none, print-one, leave-none, leave-one}
 use Rattle.lines.specs.Lines.{Unended}
-use Rattle.applying.specs.Applies.{room, Applies}
+use Rattle.printer.specs.Puts.{room}
+use Rattle.applying.specs.Applies.{Applies}
 use Rattle.session.specs.Promises.{Ran, Takes}
 use Rattle.lines.proofs.Lines.{lines-last, whole-none, whole-more}
 use Rattle.session.proofs.Pieces.{leave-pieces}

@@ -3,7 +3,7 @@ ghost use Prim.Native.Nat.{_-_, _≤_};
 ghost use lib.ListN.{length, take};
 ghost use Rattle.answers.specs.Performs.{areas};
 ghost use Rattle.lines.specs.Lines.{Unended};
-ghost use Rattle.applying.specs.Applies.{room};
+ghost use Rattle.printer.specs.Puts.{room};
 ghost use Rattle.held.specs.Held.{Within};
 ghost use Rattle.pieces.specs.Pieces.{WentOn, RanLast, MadeOf};
 use held::Got;

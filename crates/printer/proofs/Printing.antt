@@ -8,7 +8,7 @@ use lib.Seq.{sets}
 use Rattle.model.proofs.Parts.{sets-append, set-sets}
 use Rattle.model.specs.Text.{decimal}
 use Rattle.model.specs.PartitionText.{putText}
-use Rattle.printer.specs.Puts.{Puts}
+use Rattle.printer.specs.Puts.{Puts, room}
 use Rattle.model.proofs.Decimals.{figures-one, decimal-more, length-decimal, length-one, length-more}
 
 pub puts-append : {xs ys : List ℕ} {at p r : ℕ} {a b c : List ℕ} → Puts xs at a p b → Puts ys p b r c → Puts (xs ++ ys) at a r c
@@ -20,6 +20,9 @@ puts-append {xs} {ys} {at} {p} {r} {a} {b} {c} f g =
 
 pub puts-three : {ws : List ℕ} (xs ys zs : List ℕ) {at p r : ℕ} {a b c : List ℕ} → Puts ws at a p b → Puts (xs ++ ys ++ zs) p b r c → Puts (ws ++ xs ++ ys ++ zs) at a r c
 puts-three xs ys zs f g = simp append-assoc (puts-append f (simp append-assoc at g))
+
+pub puts-five : {ws : List ℕ} (xs ys zs us vs : List ℕ) {at p r : ℕ} {a b c : List ℕ} → Puts ws at a p b → Puts (xs ++ ys ++ zs ++ us ++ vs) p b r c → Puts (ws ++ xs ++ ys ++ zs ++ us ++ vs) at a r c
+puts-five xs ys zs us vs f g = simp append-assoc (puts-append f (simp append-assoc at g))
 
 -- a number's figures, written from the last to the first: those behind the figures of `rest` stand from i on
 pub record Figured (n at rest i : ℕ) (a b : List ℕ) : Type 0 where
@@ -71,9 +74,13 @@ pub length-put-text : (k v : ℕ) → length (putText k v) ≡ 8 + length (decim
 unfolding putText
 length-put-text k v = simp length-append (omega arith)
 
--- 64 bytes are enough for an answer of two numbers, since a number has at most 20 figures
-pub room-two : (at head room a b : ℕ) → at + 64 ≤ room → head ≤ 21 → at + head + length (decimal a) + length (decimal b) + 3 ≤ room
-room-two at head room a b l h = omega (arith, length-decimal a, length-decimal b)
+-- there is room for an answer of one number, two or three, since a number has at most 20 figures
+module _ (at head size : ℕ) (l : at + room ≤ size) where
+  pub room-one : head ≤ 50 → (n : ℕ) → at + head + length (decimal n) + 2 ≤ size
+  room-one h n = omega (arith, length-decimal n)
 
-pub room-one : (at head room n : ℕ) → at + 64 ≤ room → head ≤ 42 → at + head + length (decimal n) + 2 ≤ room
-room-one at head room n l h = omega (arith, length-decimal n)
+  pub room-two : head ≤ 29 → (a b : ℕ) → at + head + length (decimal a) + length (decimal b) + 3 ≤ size
+  room-two h a b = omega (arith, length-decimal a, length-decimal b)
+
+  pub room-three : head ≤ 8 → (a b c : ℕ) → at + head + length (decimal a) + length (decimal b) + length (decimal c) + 4 ≤ size
+  room-three h a b c = omega (arith, length-decimal a, length-decimal b, length-decimal c)

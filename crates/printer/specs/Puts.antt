@@ -9,3 +9,7 @@ use lib.Seq.{sets}
 pub record Puts (bytes : List ℕ) (at : ℕ) (before : List ℕ) (r : ℕ) (later : List ℕ) : Type 0 where
   pub ends : r ≡ at + length bytes
   pub holds : later ≡ sets before at bytes
+
+-- room for one more answer; none is longer
+abbrev pub room : ℕ
+room = 72

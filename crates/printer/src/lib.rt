@@ -7,7 +7,7 @@ ghost use mathlib.Core.Path.{_≡_};
 ghost use Rattle.model.specs.PartitionText.{putText};
 ghost use Rattle.model.specs.Session.{answerText};
 ghost use Rattle.answers.specs.Told.{written, answered, refusing};
-ghost use Rattle.printer.specs.Puts.{Puts};
+ghost use Rattle.printer.specs.Puts.{Puts, room};
 use answers::Answer;
 use answers::Refusal;
 use answers::Written;
@@ -86,8 +86,17 @@ fn write_two(out: &mut [u8], at: usize, head: &[u8], a: u64, b: u64) -> usize
     write_one(out, next, b" ", b)
 }
 
+fn write_three(out: &mut [u8], at: usize, head: &[u8], a: u64, b: u64, c: u64) -> usize
+    requires { ⌜ at + length (now head) + length (decimal a) + length (decimal b) + length (decimal c) + 4 ≤ length (now out) ⌝ }
+    ensures { λ r. ⌜ Puts (now (head .entry) ++ decimal a ++ text " " ++ decimal b ++ text " " ++ decimal c ++ text ")\n") at (now (out .entry)) r (now (out .exit)) ⌝ }
+{
+    let next = write_text(out, at, head);
+    let next = write_decimal(out, next, a);
+    write_two(out, next, b" ", b, c)
+}
+
 fn write_refusal(out: &mut [u8], at: usize, refusal: Refusal) -> usize
-    requires { ⌜ at + 64 ≤ length (now out) ⌝ }
+    requires { ⌜ at + room ≤ length (now out) ⌝ }
     ensures { λ r. ⌜ Puts (answerText (refusing refusal)) at (now (out .entry)) r (now (out .exit)) ⌝ }
 {
     write_two(
@@ -100,7 +109,7 @@ fn write_refusal(out: &mut [u8], at: usize, refusal: Refusal) -> usize
 }
 
 pub fn write_written(out: &mut [u8], at: usize, answer: Written) -> usize
-    requires { ⌜ at + 64 ≤ length (now out) ⌝ }
+    requires { ⌜ at + room ≤ length (now out) ⌝ }
     ensures { λ r. ⌜ Puts (answerText (written answer)) at (now (out .entry)) r (now (out .exit)) ⌝ }
 {
     match answer {
@@ -110,21 +119,34 @@ pub fn write_written(out: &mut [u8], at: usize, answer: Written) -> usize
 }
 
 pub fn write_answer(out: &mut [u8], at: usize, answer: Answer) -> usize
-    requires { ⌜ at + 64 ≤ length (now out) ⌝ }
+    requires { ⌜ at + room ≤ length (now out) ⌝ }
     ensures { λ r. ⌜ Puts (answerText (answered answer)) at (now (out .entry)) r (now (out .exit)) ⌝ }
 {
     match answer {
         Answer::Found(hit) => {
             let tally = hit.tally;
-            write_two(out, at, b"(found ", hit.value, tally.reads as u64)
+            write_three(
+                out,
+                at,
+                b"(found ",
+                hit.value,
+                tally.reads as u64,
+                tally.comparisons as u64,
+            )
         }
-        Answer::Absent(tally) => write_one(out, at, b"(none ", tally.reads as u64),
+        Answer::Absent(tally) => write_two(
+            out,
+            at,
+            b"(none ",
+            tally.reads as u64,
+            tally.comparisons as u64,
+        ),
         Answer::Refused(refusal) => write_refusal(out, at, refusal),
     }
 }
 
 pub fn write_bad(out: &mut [u8], at: usize) -> usize
-    requires { ⌜ at + 64 ≤ length (now out) ⌝ }
+    requires { ⌜ at + room ≤ length (now out) ⌝ }
     ensures { λ r. ⌜ Puts (text "(bad)\n") at (now (out .entry)) r (now (out .exit)) ⌝ }
 {
     write_text(out, at, b"(bad)\n")

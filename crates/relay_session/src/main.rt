@@ -5,7 +5,7 @@ ghost use lib.ListN.{length, take};
 ghost use Rattle.model.specs.Session.{zeroArea, programAreas};
 ghost use Rattle.answers.specs.Performs.{areas};
 ghost use Rattle.lines.specs.Lines.{Unended, longest};
-ghost use Rattle.applying.specs.Applies.{room};
+ghost use Rattle.printer.specs.Puts.{room};
 ghost use Rattle.held.specs.Held.{gotOf};
 ghost use Rattle.pieces.specs.Pieces.{MadeOf};
 ghost use Rattle.relay_session.specs.Session.{IsSession};

@@ -13,7 +13,8 @@ use Rattle.model.specs.Answers.{Areas}
 use Rattle.model.specs.Session.{linePrints}
 use Rattle.model.proofs.Parts.{length-mid}
 use Rattle.lines.specs.Lines.{Unended, LineEnd, endedLines}
-use Rattle.applying.specs.Applies.{room, Applies}
+use Rattle.printer.specs.Puts.{room}
+use Rattle.applying.specs.Applies.{Applies}
 use Rattle.session.specs.Promises.{takenOf}
 use Rattle.lines.proofs.Lines.{unended-rest}
 use Rattle.session.proofs.Running.{line-unended}

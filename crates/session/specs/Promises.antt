@@ -7,9 +7,9 @@ use lib.Dec.{leb}
 use lib.ListN.{length, take}
 use Rattle.model.specs.Answers.{Areas}
 use Rattle.model.specs.Session.{linePrints, lineLeaves, linesOf, linesPrint, linesLeave}
-use Rattle.printer.specs.Puts.{Puts}
+use Rattle.printer.specs.Puts.{Puts, room}
 use Rattle.lines.specs.Lines.{Unended, endedLines, Whole}
-use Rattle.applying.specs.Applies.{room, Applies}
+use Rattle.applying.specs.Applies.{Applies}
 use Rattle.session.specs.declared.Printed.{Printed}
 
 -- too little room, and nothing was done

@@ -4,12 +4,12 @@ ghost use Prim.Native.Nat.{_+_};
 ghost use lib.Dec.{leb};
 ghost use lib.ListN.{length, take};
 ghost use Rattle.answers.specs.Performs.{areas};
-ghost use Rattle.applying.specs.Applies.{room};
+ghost use Rattle.printer.specs.Puts.{room};
 ghost use Rattle.session.specs.Promises.{Applied, Ran, Takes};
 use applying::perform;
 
 // Room for one answer: none has more than 40 bytes.
-const ROOM: usize = 64;
+const ROOM: usize = 72;
 
 // The place behind a line's answer.
 pub enum Printed {

@@ -7,7 +7,7 @@ use Rattle.printer.proofs.write_refusal.Statement.{statement}
 use Rattle.printer.proofs.write_refusal.Tie as tie
 
 write-two-requires : tie.Need-write-two-requires
-write-two-requires c κs = room-two _ _ _ _ _ (omega arith) (omega arith)
+write-two-requires c κs = room-two _ _ _ (omega arith) (omega arith) _ _
 
 returns : tie.Need-returns
 unfolding answerText

@@ -14,4 +14,4 @@ returns-2 : tie.Need-returns-2
 returns-2 c = rw (c .before .before .before .before .before .answer2 .given .1) (c .before .before .write-refusal .ensures)
 
 pub write-written-spec : {M : Type 1} → statement M
-write-written-spec = tie.close (tie.spec (λ c. search needs) (λ c. search needs) (λ c. search needs) (λ c κs. room-one _ _ _ _ (omega arith) (omega arith)) (λ c. search needs) (λ c κs. search needs) (λ c. search needs) returns (λ c. search needs) returns-2)
+write-written-spec = tie.close (tie.spec (λ c. search needs) (λ c. search needs) (λ c. search needs) (λ c κs. room-one _ _ _ (omega arith) (omega arith) _) (λ c. search needs) (λ c κs. search needs) (λ c. search needs) returns (λ c. search needs) returns-2)

@@ -7,7 +7,7 @@ use lib.Dec.{leb}
 use borrow.Author.Tests.{le-leb, lt-leb}
 use borrow.Author.Needs.{needs}
 use Rattle.model.proofs.Parts.{lt-or-ge}
-use Rattle.applying.specs.Applies.{room}
+use Rattle.printer.specs.Puts.{room}
 use Rattle.session.proofs.has_room.Statement.{statement}
 use Rattle.session.proofs.has_room.Tie as tie
 

@@ -7,7 +7,7 @@ use borrow.Author.Tests.{leb-true, leb-false}
 use borrow.Author.Needs.{needs}
 use Rattle.answers.specs.Performs.{areas}
 use Rattle.lines.specs.Lines.{endedLines, Whole}
-use Rattle.applying.specs.Applies.{room}
+use Rattle.printer.specs.Puts.{room}
 use Rattle.session.specs.Promises.{takenOf, Ran}
 use Rattle.lines.proofs.Lines.{whole-none}
 use Rattle.session.proofs.Running.{ran-none, taken-more, ran-more, unended-last}
