@@ -8,8 +8,8 @@ use Rattle.exported.specs.declared.MxAnswer.{MxAnswer}
 use Rattle.exported.specs.declared.MxCard.{MxCard}
 
 -- status: 0 done, 1 found, 2 none, 3 refused
-abbrev pub answer : ℕ → ℕ → ℕ → ℕ → ℕ → MxAnswer
-answer status number reads from value = record { status = status; number = number; reads = reads; batch = from; value = value }
+abbrev pub answer : ℕ → ℕ → ℕ → ℕ → ℕ → ℕ → MxAnswer
+answer status number reads from value comparisons = record { status = status; number = number; reads = reads; batch = from; value = value; comparisons = comparisons }
 
 -- 0 in the buffer, else the batch's number
 abbrev pub batchOf : Place → ℕ
@@ -18,19 +18,19 @@ batchOf (batch n) = n
 
 -- a page of memory: no read; a page of flash: one
 abbrev pub stretch : Stretch → MxAnswer
-stretch (inMemory at size) = answer 0 size 0 0 at
-stretch (inFlash at size) = answer 0 size 1 1 at
+stretch (inMemory at size) = answer 0 size 0 0 at 0
+stretch (inFlash at size) = answer 0 size 1 1 at 0
 
 abbrev pub exported : Answer → MxAnswer
-exported (done pages) = answer 0 pages 0 0 0
-exported (found value cost place) = answer 1 0 (cost .reads) (batchOf place) value
-exported (absent cost) = answer 2 0 (cost .reads) 0 0
-exported (refused number reads) = answer 3 number reads 0 0
+exported (done pages) = answer 0 pages 0 0 0 0
+exported (found value cost place) = answer 1 0 (cost .reads) (batchOf place) value (cost .comparisons)
+exported (absent cost) = answer 2 0 (cost .reads) 0 0 (cost .comparisons)
+exported (refused number reads) = answer 3 number reads 0 0 0
 exported (shown s) = stretch s
 
 -- of a text: its length is a value
 abbrev pub exportedText : Answer → MxAnswer
-exportedText (done bytes) = answer 0 0 0 0 bytes
+exportedText (done bytes) = answer 0 0 0 0 bytes 0
 exportedText (found value cost place) = exported (found value cost place)
 exportedText (absent cost) = exported (absent cost)
 exportedText (refused number reads) = exported (refused number reads)

@@ -19,6 +19,7 @@ pub struct MxAnswer {
     pub reads: u32,
     pub batch: u32,
     pub value: u64,
+    pub comparisons: u32,
 }
 
 #[repr(C)]
@@ -48,6 +49,7 @@ fn of_refusal(refusal: Refusal) -> MxAnswer
         reads: refusal.reads,
         batch: 0,
         value: 0,
+        comparisons: 0,
     }
 }
 
@@ -61,6 +63,7 @@ pub fn of_written(outcome: Written) -> MxAnswer
             reads: 0,
             batch: 0,
             value: 0,
+            comparisons: 0,
         },
         Written::Refused(refusal) => of_refusal(refusal),
     }
@@ -77,6 +80,7 @@ pub fn of_text(outcome: Written) -> MxAnswer
             reads: 0,
             batch: 0,
             value: bytes as u64,
+            comparisons: 0,
         },
         Written::Refused(refusal) => of_refusal(refusal),
     }
@@ -102,6 +106,7 @@ fn of_hit(hit: Hit) -> MxAnswer
         reads: tally.reads,
         batch: batch_of(spot),
         value: hit.value,
+        comparisons: tally.comparisons,
     }
 }
 
@@ -116,6 +121,7 @@ pub fn of_answer(outcome: Answer) -> MxAnswer
             reads: tally.reads,
             batch: 0,
             value: 0,
+            comparisons: tally.comparisons,
         },
         Answer::Refused(refusal) => of_refusal(refusal),
     }
@@ -124,7 +130,7 @@ pub fn of_answer(outcome: Answer) -> MxAnswer
 // A page of `size` bytes at `at`; `area` is 0 in memory and 1 in flash, which is also what was read of flash.
 fn of_page(area: u32, at: usize, size: usize) -> MxAnswer
     requires { ⌜ size < 2 ^ 32 ⌝ }
-    ensures { λ r. ⌜ r ≡ answer 0 size area area at ⌝ }
+    ensures { λ r. ⌜ r ≡ answer 0 size area area at 0 ⌝ }
 {
     MxAnswer {
         status: DONE,
@@ -132,6 +138,7 @@ fn of_page(area: u32, at: usize, size: usize) -> MxAnswer
         reads: area,
         batch: area,
         value: at as u64,
+        comparisons: 0,
     }
 }
 

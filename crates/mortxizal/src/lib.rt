@@ -1,4 +1,4 @@
-// The nine calls for C, and a card's figures: numbers, and areas as pointer and length. include/mortxizal.h declares them.
+// The nine calls for C, a card's figures and the interface's own number: numbers, and areas as pointer and length. include/mortxizal.h declares them.
 ghost use mathlib.Core.Path.{_≡_};
 ghost use Rattle.model.specs.Geometry.{geometry};
 ghost use Rattle.model.specs.Card.{figured};
@@ -13,6 +13,17 @@ use exported::of_text;
 use exported::of_viewed;
 use exported::of_written;
 use model::Geometry;
+
+// Rises with every change of a struct's layout or of a function's arguments; MX_INTERFACE of the header is the same number.
+const INTERFACE: u32 = 8;
+
+// Which interface this library has, for a program that was compiled with some header.
+#[no_mangle]
+pub extern "C" fn mx_interface() -> u32
+    ensures { λ r. ⌜ r ≡ 8 ⌝ }
+{
+    INTERFACE
+}
 
 // The numbers of a table, which C hands over one by one.
 fn numbers(s: u32, page: u32, pages: u32, kept: u32, bits: u32, hashes: u32, list: u32) -> Geometry
