@@ -118,6 +118,7 @@ impl Geometry {
     /// # Ok::<(), mortxizal::Refused>(())
     /// ```
     pub fn figures(&self, puts: u32) -> Result<Card, Refused> {
+        raw::expect_interface();
         Card::of(raw::figures(*self, puts))
     }
 

@@ -42,6 +42,7 @@ impl<'a> Index<'a> {
         flash: &'a mut [u8],
         geometry: Geometry,
     ) -> Result<Self, Refused> {
+        raw::expect_interface();
         accepted(raw::format(memory, flash, geometry))?;
         Ok(Index { memory, flash })
     }
@@ -61,6 +62,7 @@ impl<'a> Index<'a> {
     /// assert_eq!(index.get(1), Err(Refused::Opening));
     /// ```
     pub fn attach(memory: &'a mut [u8], flash: &'a mut [u8]) -> Self {
+        raw::expect_interface();
         Index { memory, flash }
     }
 

@@ -10,9 +10,9 @@
 //! says, on areas of any length and any content: a damaged table refuses a call
 //! or answers from what it holds, and never does anything undefined. This crate
 //! puts slices and results around it. `rt staticlib mortxizal` has to be run
-//! before it is built, and again when it has changed: [`raw::interface`] tells
-//! the library's interface, which has to be [`raw::INTERFACE`]. The library is for
-//! x86-64 Linux.
+//! before it is built, and again when it has changed: an [`Index`] over a library
+//! of another interface panics at once, or does not link ([`raw::interface`]). The
+//! library is for x86-64 Linux.
 //!
 //! ```
 //! use mortxizal::{Geometry, Index};

@@ -265,3 +265,13 @@ pub fn interface() -> u32 {
     // SAFETY: it takes no argument and reads nothing.
     unsafe { c::mx_interface() }
 }
+
+/// Panics where the library's interface is not [`INTERFACE`]: then it was not
+/// built anew when this crate was.
+pub(crate) fn expect_interface() {
+    let library = interface();
+    assert_eq!(
+        library, INTERFACE,
+        "target/staticlib/libmortxizal.a is of another interface: run `rt staticlib mortxizal` again"
+    );
+}
