@@ -27,10 +27,10 @@ use Rattle.history.specs.Reads.{readOf, batchesRead, comparedIn, entries
 use Rattle.history.specs.Claim.{isRefused, readsOf, comparisonsOf, Cost, GetsCost}
 
 -- an answer's reads and comparisons: of so many pages, and so many entries, of which no more than these
-pub record Costs (g : Geometry) (x : Answer) (pages compared most : ℕ) : Type 0 where
-  pub reads : readsOf x ≡ readsFor g pages
-  pub comparisons : comparisonsOf x ≡ compared
-  pub bounded : compared ≤ most
+record Costs (g : Geometry) (x : Answer) (pages compared most : ℕ) : Type 0 where
+  reads : readsOf x ≡ readsFor g pages
+  comparisons : comparisonsOf x ≡ compared
+  bounded : compared ≤ most
 
 module _ (g : Geometry) (k : ℕ) (f : List ℕ) where
   abbrev page : ℕ → List ℕ
@@ -45,12 +45,12 @@ module _ (g : Geometry) (k : ℕ) (f : List ℕ) where
   After c ns x = Costs g x (c .reads + length ns) (c .comparisons + comparedIn g k f ns) (c .comparisons + capacity g * length ns)
 
   -- and what is read of batch n and of those behind it, where its page is as it must be: no more, if that page has the key
-  with-page : (n : ℕ) (c : Tally) (later : Answer) (rest : List ℕ) (o : Option ℕ) → searched k (page n) ≡ o → countOf (page n) ≤ capacity g
+  with-page : (n : ℕ) (c : Tally) (later : Answer) (rest : List ℕ) (o : Option ℕ) → countOf (page n) ≤ capacity g
       → isRefused (hitIn (page n) (reported g (withPage g k f n c)) (batch n) o later) ≡ false → (isRefused later ≡ false → After (withPage g k f n c) rest later)
       → After c (n ∷ cond (not (isSome o)) rest []) (hitIn (page n) (reported g (withPage g k f n c)) (batch n) o later)
   unfolding comparedIn
-  with-page n c later rest (some i) e fits ok goes-on = record { reads = refl; comparisons = rw add-zero; bounded = omega (arith, compared-most k (page n)) }
-  with-page n c later rest none e fits ok goes-on =
+  with-page n c later rest (some i) fits ok goes-on = record { reads = refl; comparisons = rw add-zero; bounded = omega (arith, compared-most k (page n)) }
+  with-page n c later rest none fits ok goes-on =
       let w = goes-on ok in
       record {
         reads = w .reads ∙ ap (readsFor g) (omega arith);
@@ -62,7 +62,7 @@ module _ (g : Geometry) (k : ℕ) (f : List ℕ) where
   unfolding readOf comparedIn
   through [] c ok = rw read-none (record { reads = rw add-zero; comparisons = rw add-zero; bounded = omega arith })
   through (n ∷ ns) c ok = either (expected g (partitionOf g k) n (pageOf g k) (page n))
-      (λ good. rw (read-batch, good) (with-page n c _ _ (searched k (page n)) refl (expected-head g _ n _ (page n) good .fits) (rw (read-batch, good) at ok) (through ns (withPage g k f n c))))
+      (λ good. rw (read-batch, good) (with-page n c _ _ (searched k (page n)) (expected-head g _ n _ (page n) good .fits) (rw (read-batch, good) at ok) (through ns (withPage g k f n c))))
       (λ bad. absurd (true≢false (rw (read-batch, bad) at ok)))
 
   -- in the key's partition with the bytes p, whose buffer page for the key counts no more than fit
@@ -90,7 +90,7 @@ module _ (g : Geometry) (k : ℕ) (f : List ℕ) where
           bounded = omega (arith, w .bounded, compared-most k own);
         }
 
-    pub sought-costs : isRefused (sought g k p f) ≡ false → Sought (entriesCompared g k p f) (batchesRead g k p f) (sought g k p f)
+    sought-costs : isRefused (sought g k p f) ≡ false → Sought (entriesCompared g k p f) (batchesRead g k p f) (sought g k p f)
     unfolding batchesRead entriesCompared
     sought-costs ok = go (listedAt (listedOf p) k (listOf g p)) refl
       where
