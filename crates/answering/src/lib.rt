@@ -1,4 +1,6 @@
 // Which entries of a partition a get answers with. Each is decided by its key: by the list, the buffer page, the younger filters and the pages behind those that pass.
+#![tactic(auto)]
+
 ghost use Rattle.std.specs.Prelude.{true, not, ◌&&◌, ◌≡◌, ◌-◌};
 ghost use Rattle.model.specs.Search.{is_some};
 ghost use Rattle.model.specs.Keys.{partition_of, page_of, mixed};

@@ -1,4 +1,6 @@
 // A line applied to two areas: the call that it says, and the text of its answer.
+#![tactic(auto)]
+
 ghost use Rattle.std.specs.Prelude.{◌+◌, ◌≤◌, length};
 ghost use Rattle.answers.specs.Performs.{areas};
 ghost use Rattle.printer.specs.Puts.{room};

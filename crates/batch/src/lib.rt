@@ -1,4 +1,6 @@
 // One page of a batch, in flash: written with its flush number, and its head examined.
+#![tactic(auto)]
+
 ghost use Rattle.std.specs.Prelude.{true, ◌≡◌, ◌+◌, ◌%◌, ◌≤◌, length};
 ghost use Rattle.model.specs.Bytes.{mid, within};
 ghost use Rattle.model.specs.Geometry.{allowed};

@@ -1,4 +1,6 @@
 // The ten bench cases of document 01, run on the proved crates: a line each, with what the paper says of the case. Then a line of views.
+#![tactic(auto)]
+
 mod say;
 
 use model::Geometry;

@@ -1,4 +1,6 @@
 // What a card will carry: four figures from a geometry and a number of puts, on no areas (02, job 7).
+#![tactic(auto)]
+
 ghost use Rattle.std.specs.Prelude.{true, ◌≡◌};
 ghost use Rattle.model.specs.Geometry.{allowed};
 ghost use Rattle.model.specs.Card.{most_flushes, first_lost, figured};

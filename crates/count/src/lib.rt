@@ -1,4 +1,6 @@
 // The call count: a partition's entries, from its head alone.
+#![tactic(auto)]
+
 ghost use Rattle.std.specs.Prelude.{◌≡◌};
 ghost use Rattle.model.specs.Calls.{Call};
 ghost use Rattle.answers.specs.Told.{written};

@@ -1,4 +1,6 @@
 // The delete: in one partition, and as a call on whole areas.
+#![tactic(auto)]
+
 ghost use Rattle.std.specs.Prelude.{true, false, ◌≡◌, ◌≤◌, ◌<◌, length};
 ghost use Rattle.std.proofs.Math.Option.{some};
 ghost use Rattle.model.specs.Bytes.{within};
@@ -21,14 +23,14 @@ use model::Geometry;
 use records::Found;
 
 // The youngest live batch whose filter passes a key, if there is one.
-#[derive(Drop)]
+#[derive(Clone, Copy)]
 pub enum Youngest {
     Batch(u32),
     Nowhere,
 }
 
 // What a del does: refuse, nothing for a listed key, or take the key out of the buffer and list it with this batch.
-#[derive(Drop)]
+#[derive(Clone, Copy)]
 pub enum Plan {
     Refused(Refusal),
     Nothing,

@@ -1,4 +1,6 @@
 // The list of deleted keys: places of 16 bytes (key 8, stamp 4, zero 4), of which the first n are used.
+#![tactic(auto)]
+
 ghost use Rattle.std.specs.Prelude.{◌≡◌, ◌+◌, ◌*◌, ◌≤◌, ◌<◌, length};
 ghost use Rattle.model.specs.DeleteList.{listed_at, enlisted, struck, expired, unexpired};
 ghost use Rattle.records.specs.Found.{found_at};

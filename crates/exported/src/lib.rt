@@ -1,4 +1,6 @@
 // What the C interface gives: one struct for the answers of all calls, and one for a card's figures.
+#![tactic(auto)]
+
 ghost use Rattle.std.specs.Prelude.{◌≡◌, ◌<◌, ◌^◌};
 ghost use Rattle.model.specs.Answers.{found};
 ghost use Rattle.answers.specs.Told.{as_tally, refusing, written, place, answered, viewed};
@@ -8,7 +10,7 @@ use answers::{Answer, Hit, Place, Refusal, Viewed, Written};
 use model::Figured;
 
 #[repr(C)]
-#[derive(Drop)]
+#[derive(Clone, Copy)]
 pub struct MxAnswer {
     pub status: u32,
     pub number: u32,
@@ -19,7 +21,7 @@ pub struct MxAnswer {
 }
 
 #[repr(C)]
-#[derive(Drop)]
+#[derive(Clone, Copy)]
 pub struct MxCard {
     pub status: u32,
     pub number: u32,

@@ -1,25 +1,27 @@
 // Fixed texts and decimal figures in a line. A place may lie past the line's end: nothing stands there.
+#![tactic(auto)]
+
 ghost use Rattle.std.specs.Prelude.{◌≡◌, ◌+◌, drop};
 ghost use Rattle.model.specs.Text.{past, leading, is_plain, figure};
 ghost use Rattle.model.specs.Session.{narrow};
 ghost use Rattle.figures.specs.Places.{figure_at, behind_in, number_in, narrow_in, figure_past};
 
 // The place behind a fixed text that stands in a line.
-#[derive(Drop)]
+#[derive(Clone, Copy)]
 pub enum Behind {
     At(usize),
     Nowhere,
 }
 
 // A number in a line and the place behind it.
-#[derive(Drop)]
+#[derive(Clone, Copy)]
 pub enum Number {
     Read(u64, usize),
     Bad,
 }
 
 // The same, of a number below 2^32.
-#[derive(Drop)]
+#[derive(Clone, Copy)]
 pub enum Narrow {
     Read(u32, usize),
     Bad,

@@ -1,4 +1,6 @@
 // The Bloom filters of a partition, by slot. A key comes mixed, since one mixing serves many filters.
+#![tactic(auto)]
+
 ghost use Rattle.std.specs.Prelude.{true, ◌≡◌, ℕ, ◌+◌, ◌*◌, ◌≤◌, ◌<◌, length};
 ghost use Rattle.model.specs.Bytes.{mid, within};
 ghost use Rattle.model.specs.Geometry.{allowed, capacity, filter_size, filter_at, stride};

@@ -1,4 +1,6 @@
 // The flush: decided from one partition, and as a call on whole areas.
+#![tactic(auto)]
+
 ghost use Rattle.std.specs.Prelude.{true, ◌≡◌, ◌≤◌, ◌<◌, length};
 ghost use Rattle.model.specs.Bytes.{within};
 ghost use Rattle.model.specs.Geometry.{allowed, partitions, stride, partition_at, memory_need, flash_need};

@@ -1,4 +1,6 @@
 // What a flush writes: the partition's buffer pages become a batch in flash, and the partition goes on with an empty buffer.
+#![tactic(auto)]
+
 ghost use Rattle.std.specs.Prelude.{true, ◌≡◌, ◌+◌, ◌≤◌, ◌<◌, length};
 ghost use Rattle.model.specs.Bytes.{within};
 ghost use Rattle.model.specs.Geometry.{allowed, partitions, buffer_at, stride, partition_at, memory_need, flash_need};

@@ -1,4 +1,6 @@
 // The format of a whole memory area.
+#![tactic(auto)]
+
 ghost use Rattle.std.specs.Prelude.{true, ◌≡◌, ◌≤◌, ◌<◌, length};
 ghost use Rattle.model.specs.Geometry.{allowed, partitions, memory_need};
 ghost use Rattle.model.specs.Opening.{with_opening};

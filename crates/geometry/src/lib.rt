@@ -1,4 +1,6 @@
 // A table's numbers: which are allowed, what they need, where everything begins; a batch's slot.
+#![tactic(auto)]
+
 ghost use Rattle.std.specs.Prelude.{true, ◌≡◌, ℕ, ◌+◌, ◌≤◌, ◌<◌};
 ghost use Rattle.model.specs.Geometry.{is_power, allowed, partitions, capacity, most_entries, filter_size, filter_at, buffer_at, stride, partition_at, memory_need, slot_page_at, flash_need};
 ghost use Rattle.model.specs.Partition.{slot};

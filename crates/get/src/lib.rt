@@ -1,4 +1,6 @@
 // The call get: a lookup in the key's partition.
+#![tactic(auto)]
+
 ghost use Rattle.model.specs.Calls.{Call};
 ghost use Rattle.answers.specs.Told.{answered};
 ghost use Rattle.answers.specs.Performs.{Performs};

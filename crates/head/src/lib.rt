@@ -1,4 +1,6 @@
 // A partition's head, read as one record, changed and put back.
+#![tactic(auto)]
+
 ghost use Rattle.std.specs.Prelude.{true, false, ◌≡◌, ◌+◌, ◌≤◌, ◌<◌, min, length};
 ghost use Rattle.model.specs.Partition.{head_of, flushed_head, lowered_head, listed_head, unlisted_head, totalled_head, with_head, totalled, total_of, is_live};
 ghost use Rattle.model.specs.Refusals.{head_overfull, total_out};
@@ -8,7 +10,7 @@ ghost use Rattle.head.specs.Heads.{as_head};
 use model::Geometry;
 
 // Flushes done, listed keys, the total of the partition's entries, and the number of its live batches.
-#[derive(Drop)]
+#[derive(Clone, Copy)]
 pub struct Head {
     pub flushes: u32,
     pub listed: u32,

@@ -1,18 +1,20 @@
 // The unfinished line that a session holds between two reads, and what a read tells.
+#![tactic(auto)]
+
 ghost use Rattle.std.specs.Prelude.{◌≡◌, ◌<◌, length, take};
 ghost use Rattle.held.specs.Held.{Held, AtStart, got_of};
 
 use libc::STDIN_FILENO;
 
 // The unfinished line that is held between two reads: input[at..end].
-#[derive(Drop)]
+#[derive(Clone, Copy)]
 pub struct Rest {
     pub at: usize,
     pub end: usize,
 }
 
 // What a read told: so many bytes came, the input has ended, or it failed.
-#[derive(Drop)]
+#[derive(Clone, Copy)]
 pub enum Got {
     Bytes(usize),
     End,

@@ -1,4 +1,6 @@
 // The nine calls on memory and flash of any length and content. Each but format opens the table first; what it does then stands in the crate of its name.
+#![tactic(auto)]
+
 ghost use Rattle.std.specs.Prelude.{◌≡◌, length};
 ghost use Rattle.model.specs.Calls.{Call, text_left, bytes_shown};
 ghost use Rattle.answers.specs.Told.{written, answered, viewed};

@@ -1,4 +1,6 @@
 // A key's partition, its mixed form and its page.
+#![tactic(auto)]
+
 ghost use Rattle.std.specs.Prelude.{true, ◌≡◌};
 ghost use Rattle.model.specs.Geometry.{allowed, partition_at};
 ghost use Rattle.model.specs.Keys.{partition_of, page_of, mixed};

@@ -1,4 +1,6 @@
 // The ends of lines: where a line ends, and what is kept of one that has not ended.
+#![tactic(auto)]
+
 ghost use Rattle.std.specs.Prelude.{◌≤◌, length, take, drop};
 ghost use Rattle.printer.specs.Puts.{Puts};
 ghost use Rattle.lines.specs.Lines.{longest, LineEnd, Unended, Same};

@@ -1,4 +1,6 @@
 // The list of deleted keys of a partition, which is lent here and nowhere else.
+#![tactic(auto)]
+
 ghost use Rattle.std.specs.Prelude.{false, ◌≡◌, ◌≤◌, ◌<◌};
 ghost use Rattle.model.specs.Bytes.{within};
 ghost use Rattle.model.specs.Geometry.{list_at, list_size};

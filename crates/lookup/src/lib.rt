@@ -1,4 +1,6 @@
 // The lookup in one partition: its list, its buffer, then its live batches in flash.
+#![tactic(auto)]
+
 ghost use Rattle.std.specs.Prelude.{false, ◌≡◌, ◌^◌, ◌≤◌, ◌<◌, length};
 ghost use Rattle.std.proofs.Math.Option.{none};
 ghost use Rattle.model.specs.Geometry.{capacity, flash_need};

@@ -90,7 +90,7 @@ remaining-first w k i zero a xs e = cc
 remaining-first w k i (suc n) a xs e =
     rw (eqb_comm k (key_at xs a))
     (either (eqb (key_at xs a) k)
-    (λ t. let f : some a ≡ some i = simp t at e in let d : a ≡ i = cc in simp (t, ← d, eq-eqb a a refl) (remaining-all w (eqb a) n (a + 1) xs (λ j p q. ne_eqb a j (omega arith))))
+    (λ t. let f : some a ≡ some i = simp t at e in let d : a ≡ i = cc in simp (t, eq-eqb i a (sym d)) (remaining-all w (eqb i) n (a + 1) xs (λ j p q. ne_eqb i j (omega arith))))
     (λ t.
     let f : first_record k n (a + 1) xs ≡ some i = simp t at e in
     let l = first-at (λ j. eqb (key_at xs j) k) n (a + 1) i f in

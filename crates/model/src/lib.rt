@@ -1,5 +1,7 @@
 // The numbers of a table, named as the session's format form names them. Definitions and code share this one type.
-#[derive(Drop)]
+#![tactic(auto)]
+
+#[derive(Clone, Copy)]
 pub struct Geometry {
     pub parts: u32,
     pub page: u32,
@@ -11,7 +13,7 @@ pub struct Geometry {
 }
 
 // What a card with a table of some geometry carries, for a number of puts: the bytes of memory and of flash, the most flushes, and the first put at which an earlier key can be lost.
-#[derive(Drop)]
+#[derive(Clone, Copy)]
 pub struct Card {
     pub memory: u64,
     pub flash: u64,
@@ -20,7 +22,7 @@ pub struct Card {
 }
 
 // A card, or the number of the refusal.
-#[derive(Drop)]
+#[derive(Clone, Copy)]
 pub enum Figured {
     Done(Card),
     Refused(u32),

@@ -1,4 +1,6 @@
 // The nine calls for C, a card's figures and the interface's own number: numbers, and areas as pointer and length. include/mortxizal.h declares them.
+#![tactic(auto)]
+
 ghost use Rattle.std.specs.Prelude.{◌≡◌};
 ghost use Rattle.model.specs.Geometry.{geometry};
 ghost use Rattle.model.specs.Card.{figured};

@@ -1,4 +1,6 @@
 // Opening a table: the checks that every call but format begins with.
+#![tactic(auto)]
+
 ghost use Rattle.std.specs.Prelude.{◌≡◌, ◌≤◌, length};
 ghost use Rattle.model.specs.Opening.{geometry_of};
 ghost use Rattle.opening.specs.Opened.{opening_number};

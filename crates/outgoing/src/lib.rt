@@ -1,4 +1,6 @@
 // A batch that goes, by a flush or a drop: the heads of its pages are read before anything is written, for its entries leave the total.
+#![tactic(auto)]
+
 ghost use Rattle.std.specs.Prelude.{true, false, ◌≡◌, ◌≤◌, ◌<◌, length};
 ghost use Rattle.model.specs.Geometry.{allowed, partitions, flash_need};
 ghost use Rattle.model.specs.Partition.{head_of, flushes_of, slot};
@@ -11,7 +13,7 @@ use head::Head;
 use model::Geometry;
 
 // What the call does: refuse, or take so many entries off the total.
-#[derive(Drop)]
+#[derive(Clone, Copy)]
 pub enum Leaving {
     Refused(Refusal),
     Entries(u32),

@@ -1,4 +1,6 @@
 // One page: a head of 16 bytes, then its entries, the records 1 to count.
+#![tactic(auto)]
+
 ghost use Rattle.std.specs.Prelude.{◌≡◌, ◌+◌, ◌*◌, ◌≤◌, length};
 ghost use Rattle.std.proofs.Math.Option.{none};
 ghost use Rattle.model.specs.Page.{count_of, value_at, searched, appended, replaced, removed, stored, added, without, taken, emptied};

@@ -1,23 +1,25 @@
 // A reader lent one page, which gives its entries in turn. It is a struct that holds a reference: what takes or makes one is proved by hand, and the work is done by `step_at`.
+#![tactic(auto)]
+
 ghost use Rattle.std.specs.Prelude.{◌≡◌, ◌+◌, ◌*◌, ◌≤◌, length};
 ghost use Rattle.model.specs.Page.{count_of};
 ghost use Rattle.page_reader.specs.Steps.{step_at};
 
 // The page, and the place of the entry that comes next.
-#[derive(Drop)]
+#[derive(Clone, Copy)]
 pub struct Reader<'a> {
     pub page: &'a [u8],
     pub place: usize,
 }
 
-#[derive(Drop)]
+#[derive(Clone, Copy)]
 pub struct Entry {
     pub place: usize,
     pub key: u64,
     pub value: u64,
 }
 
-#[derive(Drop)]
+#[derive(Clone, Copy)]
 pub enum Step {
     Given(Entry),
     End,

@@ -1,4 +1,6 @@
 // The search of a page, with a tally of what a get costs: it is lent to each search and grows with it. What takes or lends the tally is proved by hand, and the work is done by `compare`.
+#![tactic(auto)]
+
 ghost use Rattle.std.specs.Prelude.{◌≡◌, ◌+◌, ◌*◌, ◌≤◌, ◌<◌, ◌^◌, length};
 ghost use Rattle.model.specs.Page.{count_of, searched, compared};
 ghost use Rattle.records.specs.Found.{found_at};
@@ -7,14 +9,14 @@ use answers::Tally;
 use records::Found;
 
 // Where a search found the key, and the comparisons up to there.
-#[derive(Drop)]
+#[derive(Clone, Copy)]
 pub struct Compared {
     pub found: Found,
     pub comparisons: u32,
 }
 
 // Where a search found the key, and the tally after it.
-#[derive(Drop)]
+#[derive(Clone, Copy)]
 pub struct Searched {
     pub found: Found,
     pub tally: Tally,

@@ -1,4 +1,6 @@
 // One page of a flush, written from the buffer into its slot directly.
+#![tactic(auto)]
+
 ghost use Rattle.std.specs.Prelude.{◌≡◌};
 ghost use Rattle.model.specs.Partition.{partition};
 ghost use Rattle.model.specs.Flush.{with_batch_page};

@@ -1,4 +1,6 @@
 // One partition's bytes, as a part of memory.
+#![tactic(auto)]
+
 ghost use Rattle.std.specs.Prelude.{true, ◌≡◌, ◌≤◌, ◌<◌, length};
 ghost use Rattle.model.specs.Geometry.{allowed, partitions, memory_need};
 ghost use Rattle.model.specs.Keys.{partition_of};

@@ -1,4 +1,6 @@
 // A piece of input, run: its whole lines, or the last line, with their answers to standard output.
+#![tactic(auto)]
+
 ghost use Rattle.std.specs.Prelude.{◌-◌, ◌≤◌, length, take};
 ghost use Rattle.answers.specs.Performs.{areas};
 ghost use Rattle.lines.specs.Lines.{Unended};
@@ -11,14 +13,14 @@ use libc::STDOUT_FILENO;
 use session::Printed;
 
 // Where an unfinished line begins; or a write failed, and the session is over.
-#[derive(Drop)]
+#[derive(Clone, Copy)]
 pub enum Step {
     Until(usize),
     Failed,
 }
 
 // What a turn comes to: it goes on, the input has ended, or a read or a write failed.
-#[derive(Drop)]
+#[derive(Clone, Copy)]
 pub enum Next {
     On(Rest),
     Ended,

@@ -1,4 +1,6 @@
 // Answers and lines as fixed byte strings and figures, written into a slice from `at` on; each tells the place behind.
+#![tactic(auto)]
+
 ghost use Rattle.std.specs.Prelude.{◌++◌, ◌+◌, ◌≤◌, length, ◌≡◌};
 ghost use Rattle.model.specs.Text.{text, decimal};
 ghost use Rattle.model.specs.PartitionText.{put_text};

@@ -1,4 +1,6 @@
 // The put: what it does, decided from one partition; that, done to whole areas; and both as a call.
+#![tactic(auto)]
+
 ghost use Rattle.std.specs.Prelude.{false, ◌≡◌, ◌≤◌, length};
 ghost use Rattle.model.specs.Geometry.{flash_need};
 ghost use Rattle.model.specs.Keys.{partition_of};
@@ -19,7 +21,7 @@ use outgoing::Leaving;
 use records::Found;
 
 // What a put does: nothing but refuse, store, or flush first and take so many entries off the total.
-#[derive(Drop)]
+#[derive(Clone, Copy)]
 pub enum Plan {
     Refused(Refusal),
     Store,

@@ -1,17 +1,19 @@
 // A session's line to its form.
+#![tactic(auto)]
+
 mod read;
 
 use model::Geometry;
 pub use read::read_line;
 
 // Three numbers below 2^32, each behind a text of its own, and the place behind them.
-#[derive(Drop)]
+#[derive(Clone, Copy)]
 pub enum Three {
     Read(u32, u32, u32, usize),
     Bad,
 }
 
-#[derive(Drop)]
+#[derive(Clone, Copy)]
 pub enum Form {
     Format(Geometry),
     Put(u64, u64),

@@ -1,11 +1,13 @@
 // Records of 16 bytes that open with a key: a page's entries and a delete list's places are both such records.
+#![tactic(auto)]
+
 ghost use Rattle.std.specs.Prelude.{◌≡◌, ◌+◌, ◌*◌, ◌≤◌, ◌<◌, eqb, length};
 ghost use Rattle.model.specs.Search.{any_from};
 ghost use Rattle.model.specs.Records.{first_record, closed_up};
 ghost use Rattle.records.specs.Found.{found_at};
 ghost use Rattle.records.specs.Lacking.{has_key, Lacking};
 
-#[derive(Drop)]
+#[derive(Clone, Copy)]
 pub enum Found {
     At(usize),
     Nothing,

@@ -1,4 +1,6 @@
 // The session program: forms from standard input, one a line, over two areas of 32,768 zero bytes; answers to standard output.
+#![tactic(auto)]
+
 ghost use Rattle.std.specs.Prelude.{◌≡◌, ◌-◌, ◌≤◌, ◌<◌, length, take};
 ghost use Rattle.model.specs.Session.{zero_area, program_areas};
 ghost use Rattle.answers.specs.Performs.{areas};

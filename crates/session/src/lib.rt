@@ -1,4 +1,6 @@
 // The session: one line, or all whole lines of a text, applied to two areas, with their answers as text.
+#![tactic(auto)]
+
 ghost use Rattle.std.specs.Prelude.{◌≡◌, ◌+◌, leb, length, take};
 ghost use Rattle.answers.specs.Performs.{areas};
 ghost use Rattle.printer.specs.Puts.{room};
@@ -10,14 +12,14 @@ use applying::perform;
 const ROOM: usize = 72;
 
 // The place behind a line's answer.
-#[derive(Drop)]
+#[derive(Clone, Copy)]
 pub enum Printed {
     Until(usize),
     NoRoom,
 }
 
 // How far a run came: bytes of its input, and bytes that it printed.
-#[derive(Drop)]
+#[derive(Clone, Copy)]
 pub struct Progress {
     pub taken: usize,
     pub printed: usize,

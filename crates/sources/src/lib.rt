@@ -1,4 +1,6 @@
 // The places of a partition that hold entries: its live batches, oldest first, then its buffer.
+#![tactic(auto)]
+
 ghost use Rattle.std.specs.Prelude.{true, false, ◌≡◌, ◌≤◌, ◌<◌, length};
 ghost use Rattle.model.specs.Geometry.{allowed, partitions, flash_need};
 ghost use Rattle.model.specs.Search.{is_some};
@@ -15,7 +17,7 @@ use head::Head;
 use model::Geometry;
 
 // A page of one of them.
-#[derive(Drop)]
+#[derive(Clone, Copy)]
 pub struct Spot {
     pub partition: u32,
     pub at: Place,

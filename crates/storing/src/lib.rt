@@ -1,4 +1,6 @@
 // A key stored in its partition: it has the value, and is listed no more.
+#![tactic(auto)]
+
 ghost use Rattle.std.specs.Prelude.{true, false, ◌≡◌, ◌+◌, ◌≤◌, length};
 ghost use Rattle.model.specs.Bytes.{within};
 ghost use Rattle.model.specs.Geometry.{allowed, stride, partition_at, memory_need};

@@ -1,4 +1,6 @@
 // The call text: a partition's keys and values as session lines, in an area that is lent for them.
+#![tactic(auto)]
+
 ghost use Rattle.std.specs.Prelude.{◌≡◌, ◌≤◌, ◌<◌, length};
 ghost use Rattle.model.specs.Geometry.{partitions, flash_need};
 ghost use Rattle.model.specs.Answers.{done, refused};

@@ -1,4 +1,6 @@
 // The length of a partition's text, without writing it.
+#![tactic(auto)]
+
 ghost use Rattle.std.specs.Prelude.{◌≡◌, length};
 ghost use Rattle.model.specs.Partition.{head_of};
 ghost use Rattle.model.specs.PartitionText.{source_text, partition_text};

@@ -1,4 +1,6 @@
 // Where one page is shown; and the call view.
+#![tactic(auto)]
+
 ghost use Rattle.std.specs.Prelude.{true, false, ◌≡◌, ◌≤◌, ◌<◌, length};
 ghost use Rattle.model.specs.Geometry.{allowed, partitions, flash_need};
 ghost use Rattle.model.specs.View.{view_checks, page_shown, viewed};
