@@ -98,7 +98,7 @@ module _ (g : Geometry) (k : ℕ) (p : Part) (ok : PartOk g p) where
         (λ j x. find-store-other j k x n _)
         (λ m e. let now = find-store-same k n p.list in let same : m ≡ n = cc in rw same falls.0)
         (told_same (find-store-same k n _) (λ a. refl)
-        (listed {s = n} (λ (b : ℕ) (l : b + n ≤ p.flushes). gone _ b (omega arith) (λ c q. rw e (omega arith))))))
+        (listed {s = n} (λ (b : ℕ) (l : b + n ≤ p.flushes). gone (store k n p.list) b (omega arith) (λ c q. rw e (omega arith))))))
 
     pub deleted-touch : (w : Option Known) → KeyOk g p k w → (must_list g k p ≡ true → length p.list < g.list)
         → Touch g k none p (deleted g k p)

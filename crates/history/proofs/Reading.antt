@@ -42,12 +42,12 @@ module _ (g : Geometry) (ok : allowed g ≡ true) (k : ℕ) (p f : List ℕ) (s 
     is-expected : expected g (partition_of g k) n (page_of g k) (batch_page g (partition_of g k) f n (page_of g k)) ≡ true
     is-expected = page-expected shown.page n shown.flush
 
-  read_through : (high : ℕ) (ns : List ℕ) (c : Tally) → LiveBatches s high ns → bare (read_through g k f ns c) ≡ walk (look_in g k s) ns
+  read_through_lem : (high : ℕ) (ns : List ℕ) (c : Tally) → LiveBatches s high ns → bare (read_through g k f ns c) ≡ walk (look_in g k s) ns
   unfolding walk
-  read_through high [] c falls = ap bare (read_none g k f c)
-  read_through high (n ∷ ns) c falls =
+  read_through_lem high [] c falls = ap bare (read_none g k f c)
+  read_through_lem high (n ∷ ns) c falls =
       let page : List ℕ = batch_page g (partition_of g k) f n (page_of g k) in
-      rw (read-batch g k f n ns c, is-expected n falls.0, page-find (shown n falls.0).page k, ← (read_through n ns (with_page g k f n c) falls.2))
+      rw (read-batch g k f n ns c, is-expected n falls.0, page-find (shown n falls.0).page k, ← (read_through_lem n ns (with_page g k f n c) falls.2))
       (hit-batch page n (reported g (with_page g k f n c)) (searched k page) (read_through g k f ns (with_page g k f n c)))
 
   read-of : (high : ℕ) (ns : List ℕ) → LiveBatches s high ns → read_of g k f ns ≡ walk_read (look_in g k s) ns
@@ -70,7 +70,7 @@ module _ (g : Geometry) (ok : allowed g ≡ true) (k : ℕ) (p f : List ℕ) (s 
 
   -- by where the list and the buffer page have the key
   hit-buffer : (c : Tally) (o : Option ℕ) → bare (hit_in buffered c buffer o (read_through g k f (passing g k p) c)) ≡ looked_up g k s none (held_at 8 buffered o)
-  hit-buffer c none = rw (passing-shown g ok (partition_of g k) p f s shows k within) (read_through _ (passing_of g k s) c (passing-live g k s within))
+  hit-buffer c none = rw (passing-shown g ok (partition_of g k) p f s shows k within) (read_through_lem _ (passing_of g k s) c (passing-live g k s within))
   hit-buffer c (some i) = refl
 
   sought-in : (o : Option ℕ) → listed_at (listed_of p) k (list_of g p) ≡ o → bare (sought g k p f) ≡ looked_up g k s (held_at 4 (list_of g p) o) (held_at 8 buffered (searched k buffered))

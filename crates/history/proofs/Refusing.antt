@@ -108,14 +108,14 @@ module _ (a : Areas) (h : History) (inv : InStep a h) where
 
   pub refusals-possible : (c : Call) → Fits c → Among (possible c) (reply a c)
   unfolding any
-  refusals-possible (format g') fits = among a (format g') _ _ (checks-format a g') (format-gives a g') (λ e. rw (result-format a g') tt)
+  refusals-possible (format g') fits = among a (format g') (1 ∷ 2 ∷ 3 ∷ []) _ (checks-format a g') (format-gives a g') (λ e. rw (result-format a g') tt)
   refusals-possible (put k v) fits =
       let ns : List ℕ = 21 ∷ 16 ∷ [] in
       let last = due g k (of k) && eqb (of k).flushes last_flush in
       among a (put k v) ns _ (put-checks inv k fits.0 v)
       (give-if ns (no_position v) 21 (refuse_if last 16 none) refl (give-if ns last 16 none refl tt)) (λ e. rw (result-put a _ refl k v _ refl) tt)
   refusals-possible (get k) fits = accepted (reply a (get k)) _ (says a h inv k fits)
-  refusals-possible (del k) fits = among a (del k) _ _ (del-checks inv k fits)
+  refusals-possible (del k) fits = among a (del k) (14 ∷ []) _ (del-checks inv k fits)
       (give-if (14 ∷ []) (must_list g k (of k) && eqb (length (of k).list) g.list) 14 none refl tt) (λ e. rw (result-del a k) tt)
   refusals-possible (flush t) fits = either (ltb t (partitions g))
       (λ l.
@@ -130,7 +130,7 @@ module _ (a : Areas) (h : History) (inv : InStep a h) where
       let below = ltb-true t (partitions g) both.0 in
       let page = ltb-true q g.pages both.1 in
       let dead = not (eqb n 0) && not (is_live (head_of (p t)) n) in
-      among a (view t q n) _ _ (view-checks inv t below q n page)
+      among a (view t q n) (4 ∷ 17 ∷ []) _ (view-checks inv t below q n page)
       (give-if (4 ∷ 17 ∷ []) dead 17 none refl tt)
       (λ x. rw (result-view a g inv.shows.geometry t q n) (page-shown t q n below page (refuse-none dead 17 none x).0)))
       (λ e. rw (reply-refused a (view t q n) (unread 4)
@@ -141,14 +141,14 @@ module _ (a : Areas) (h : History) (inv : InStep a h) where
       outside true false e = refl
       outside false y e = refl
   refusals-possible (count t) fits = either (ltb t (partitions g))
-      (λ l. among a (count t) _ _ (count-checks inv t (ltb-true t (partitions g) l)) tt
+      (λ l. among a (count t) (4 ∷ []) _ (count-checks inv t (ltb-true t (partitions g) l)) tt
       (λ e. rw (result_count a _ refl t) tt))
       (λ l. rw (reply-refused a (count t) (unread 4) (count-out inv t (ltb-false t (partitions g) l))) (refl, refl))
   refusals-possible (text t room) fits = either (ltb t (partitions g))
-      (λ l. among a (text t room) _ _ (text-checks inv t (ltb-true t (partitions g) l) room)
+      (λ l. among a (text t room) (4 ∷ 22 ∷ []) _ (text-checks inv t (ltb-true t (partitions g) l) room)
       (give-if (4 ∷ 22 ∷ []) (ltb room (length (partition_text g t (p t) a.flash))) 22 none refl tt) (λ e. rw (result-text a _ refl t room) tt))
       (λ l. rw (reply-refused a (text t room) (unread 4) (text_out inv t room (ltb-false t (partitions g) l))) (refl, refl))
   refusals-possible (drop t) fits = either (ltb t (partitions g))
-      (λ l. among a (drop t) _ _ (drop-checks inv t (ltb-true t (partitions g) l))
+      (λ l. among a (drop t) (4 ∷ 23 ∷ []) _ (drop-checks inv t (ltb-true t (partitions g) l))
       (give-if (4 ∷ 23 ∷ []) (eqb (inv.table t).live 0) 23 none refl tt) (λ e. rw (result-drop a t) tt))
       (λ l. rw (reply-refused a (drop t) (unread 4) (drop-out inv t (ltb-false t (partitions g) l))) (refl, refl))

@@ -10,7 +10,7 @@ use Rattle.batch.proofs.copy_numbered.Tie as tie
 
 returns : tie.Need-returns
 unfolding numbered
-returns c = let a = c.before.before.before.before.before.before.before.before.before.before.args in cc (write-set 4 a.flush a.at 8 a.size (mid a.from a.size a.src.now) a.dst.now (length-mid a.from a.size a.src.now (omega arith)) (omega arith))
+returns c = let a = c.args in cc (write-set 4 a.flush a.at 8 a.size (mid a.from a.size a.src.now) a.dst.now (length-mid a.from a.size a.src.now (omega arith)) (omega arith))
 
-pub copy-numbered-spec : {M : Type 1} → statement M
-copy-numbered-spec = tie.close (tie.spec (λ c κs. search rules) (λ c. search rules) (λ c κs. search rules) (λ c. search rules) returns)
+pub copy_numbered_spec : {M : Type 1} → statement M
+copy_numbered_spec = tie.close (tie.spec (λ c κs. search rules) (λ c. search rules) (λ c κs. search rules) (λ c. search rules) returns)

@@ -8,5 +8,5 @@ returns : tie.Need-returns
 unfolding expected
 returns c = cc
 
-pub is-expected-spec : {M : Type 1} → statement M
-is-expected-spec = tie.close (tie.spec (λ c. search rules) (λ c κs. search rules) (λ c. search rules) (λ c κs. search rules) (λ c. search rules) (λ c κs. search rules) (λ c. search rules) (λ c κs. search rules) (λ c κs. search rules) returns)
+pub is_expected_spec : {M : Type 1} → statement M
+is_expected_spec = tie.close (tie.spec (λ c. search rules) (λ c κs. search rules) (λ c. search rules) (λ c κs. search rules) (λ c. search rules) (λ c κs. search rules) (λ c. search rules) (λ c κs. search rules) (λ c κs. search rules) returns)

@@ -8,5 +8,5 @@ returns : tie.Need-returns
 unfolding enlisted
 returns c = cc
 
-pub enlist-spec : {M : Type 1} → statement M
-enlist-spec = tie.close (tie.spec (λ c. search rules) (λ c κs. search rules) (λ c. search rules) (λ c. search rules) (λ c κs. search rules) (λ c. search rules) (λ c. search rules) (λ c κs. search rules) (λ c. search rules) returns)
+pub enlist_spec : {M : Type 1} → statement M
+enlist_spec = tie.close (tie.spec (λ c. search rules) (λ c κs. search rules) (λ c. search rules) (λ c. search rules) (λ c κs. search rules) (λ c. search rules) (λ c. search rules) (λ c κs. search rules) (λ c. search rules) returns)

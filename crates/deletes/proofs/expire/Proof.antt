@@ -10,32 +10,32 @@ use native.Mathlib.Omega.{arith}
 use Rattle.deletes.proofs.expire.Statement.{statement}
 use Rattle.deletes.proofs.expire.Tie as tie
 
-abbrev invariant-loop : tie.invariant-loop
+abbrev invariant-loop : tie.invariant-loop-i
 invariant-loop list₀ n back flushes last stay₀ i₀ list stay i = (i ≤ n) × (stay ≤ i) × (length list ≡ length list₀) × Closed (expiring back flushes list₀) i list₀ list stay
 
-abbrev decreases-loop : tie.decreases-loop
+abbrev decreases-loop : tie.decreases-loop-i
 decreases-loop list₀ n back flushes last stay₀ i₀ list stay i = n - i
 
-loop-holds : tie.Need-loop-init invariant-loop decreases-loop
+loop-holds : tie.Need-loop-i-init invariant-loop decreases-loop
 loop-holds c = (omega arith, omega arith, refl, closed_none _ _)
 
 -- the stamp that a turn reads is that of the list at the start
-stamp : (c : tie.After-u32-at invariant-loop decreases-loop) → c.u32-at.result ≡ stamp_at c.before.before.before.before.before.args.list.now c.before.before.before.loop.i
-stamp c = c.u32-at.ensures ∙ closed-word c.before.before.before.loop.invariant.3 (omega arith) 4 _ (omega arith)
+stamp : (c : tie.After-u32_at-stamp invariant-loop decreases-loop) → c.u32_at-stamp.result ≡ stamp_at c.args.list.now c.loop-i.i
+stamp c = c.u32_at-stamp.ensures ∙ closed-word c.loop-i.invariant.3 (omega arith) 4 _ (omega arith)
 
-turn : (c : tie.Joined1 invariant-loop decreases-loop) → let a = c.before.before.before.before.before.before.args in Closed (expiring a.back a.flushes a.list.now) (c.before.before.before.before.loop.i + 1) a.list.now c.if1.list c.if1.stay
+turn : (c : tie.Joined-stamp-back invariant-loop decreases-loop) → let a = c.args in Closed (expiring a.back a.flushes a.list.now) (c.loop-i.i + 1) a.list.now c.if-stamp-back.list c.if-stamp-back.stay
 turn c =
     ⊎_elim
-    (λ w. rw (w.5 ∙ w.2.ensures, w.6) (closed-kept c.before.before.before.before.loop.invariant.3 (ne_eqb _ _ (λ e. w.0.taken (rw (stamp c.before) e))) (omega arith)))
-    (λ w. rw (w.1, w.2) (closed-gone c.before.before.before.before.loop.invariant.3 (eq-eqb _ _ (rw (stamp c.before) at w.0.left))))
-    c.if1.branch
+    (λ w. rw (w.list-is ∙ w.move_down.ensures, w.stay-is) (closed-kept c.loop-i.invariant.3 (ne_eqb _ _ (λ e. w.if-stamp-back.taken (rw (stamp c.before) e))) (omega arith)))
+    (λ w. rw (w.list-is, w.stay-is) (closed-gone c.loop-i.invariant.3 (eq-eqb _ _ (rw (stamp c.before) at w.if-stamp-back.left))))
+    c.if-stamp-back.branch-raw
 
-loop-again : tie.Need-loop-preserved invariant-loop decreases-loop
+loop-again : tie.Need-loop-i-preserved invariant-loop decreases-loop
 loop-again c = (omega arith, closed-le (turn c), closed-length (turn c), turn c)
 
 returns : tie.Need-returns invariant-loop decreases-loop
 unfolding expired unexpired
-returns c = let e : c.before.before.before.before.before.loop.i ≡ c.before.before.before.before.before.before.before.args.n = omega arith in let k = rw e at c.before.before.before.before.before.loop.invariant.3 in (c.before.before.zero.ensures ∙ closed-end k (omega arith), k.stay)
+returns c = let e : c.loop-i.i ≡ c.args.n = omega arith in let k = rw e at c.loop-i.invariant.3 in (c.zero.ensures ∙ closed-end k (omega arith), k.stay)
 
-pub expire-spec : {M : Type 1} → statement M
-expire-spec = tie.close (tie.spec invariant-loop decreases-loop (λ c. omega arith) loop-holds (λ c. omega arith) (λ c. omega arith) (λ c κs. omega arith) (λ c. omega arith) (λ c. omega arith) (λ c. omega arith) (λ c. omega arith) (λ c κs. omega arith) (λ c. omega arith) (λ c. omega arith) (λ c. omega arith) loop-again (λ c. omega arith) (λ c. omega arith) (λ c. omega arith) (λ c κs. omega arith) (λ c. omega arith) returns)
+pub expire_spec : {M : Type 1} → statement M
+expire_spec = tie.close (tie.spec invariant-loop decreases-loop (λ c. omega arith) loop-holds (λ c. omega arith) (λ c. omega arith) (λ c κs. omega arith) (λ c. omega arith) (λ c. omega arith) (λ c. omega arith) (λ c. omega arith) (λ c κs. omega arith) (λ c. omega arith) (λ c. omega arith) (λ c. omega arith) loop-again (λ c. omega arith) (λ c. omega arith) (λ c. omega arith) (λ c κs. omega arith) (λ c. omega arith) returns)

@@ -8,5 +8,5 @@ returns : tie.Need-returns
 unfolding struck
 returns c = cc
 
-pub strike-spec : {M : Type 1} → statement M
-strike-spec = tie.close (tie.spec (λ c κs. search rules) (λ c. search rules) returns)
+pub strike_spec : {M : Type 1} → statement M
+strike_spec = tie.close (tie.spec (λ c κs. search rules) (λ c. search rules) returns)

@@ -10,16 +10,16 @@ use Rattle.filter.proofs.bit_of.Tie as tie
 
 returns : tie.Need-returns
 unfolding bit_of
-returns c = mask 6 16 _ _ (sizes _ c.before.requires.0).bits-test
+returns c = mask 6 16 _ _ (sizes _ c.requires.0).bits-test
 
-mul-place : tie.Need-overflow-mul-place
+mul-place : tie.Need-overflow_mul-place
 mul-place c = omega (arith, bit-room _ c.requires.0 c.args.x _ (omega arith) c.requires.1)
 
-add-place : tie.Need-overflow-add-place
+add-place : tie.Need-overflow_add-place
 add-place c = omega (arith, bit-room _ c.requires.0 c.args.x _ (omega arith) c.requires.1)
 
-sub-result : tie.Need-overflow-sub-result
-sub-result c = let z = sizes _ c.before.requires.0 in omega arith
+sub-result : tie.Need-overflow_sub-result
+sub-result c = let z = sizes _ c.requires.0 in omega arith
 
-pub bit-of-spec : {M : Type 1} → statement M
-bit-of-spec = tie.close (tie.spec mul-place add-place (λ c. search rules) sub-result returns)
+pub bit_of_spec : {M : Type 1} → statement M
+bit_of_spec = tie.close (tie.spec mul-place add-place (λ c. search rules) sub-result returns)

@@ -11,39 +11,39 @@ use Rattle.model.proofs.Bits.{bit_byte, bit-clear, bit-there, passes_from, pass_
 use Rattle.filter.proofs.passes.Statement.{statement}
 use Rattle.filter.proofs.passes.Tie as tie
 
-abbrev invariant-loop : tie.invariant-loop
+abbrev invariant-loop : tie.invariant-loop-i
 invariant-loop part g j x at i₀ i = passes g x (slot_bits g part j) ≡ passes_from g x (slot_bits g part j) i
 
-abbrev decreases-loop : tie.decreases-loop
+abbrev decreases-loop : tie.decreases-loop-i
 decreases-loop part g j x at i₀ i = g.hashes - i
 
 -- the filter lies inside the partition
-inside : (c : tie.After-filter-at invariant-loop decreases-loop) → let a = c.before.before.args in c.filter-at.result + filter_size a.g ≤ length a.part.now
+inside : (c : tie.After-filter_at-at invariant-loop decreases-loop) → let a = c.args in c.filter_at-at.result + filter_size a.g ≤ length a.part.now
 inside c = let s = c.before.before in omega (arith, filter-fits s.args.g _ s.requires.1.0, buffer-end s.args.g)
 
-loop-holds : tie.Need-loop-init invariant-loop decreases-loop
+loop-holds : tie.Need-loop-i-init invariant-loop decreases-loop
 loop-holds c = pass_all _ _ _
 
-add-if2 : tie.Need-overflow-add-if2 invariant-loop decreases-loop
-add-if2 c = omega (arith, inside c.before.before.before.before, bit_byte _ c.before.before.before.before.before.before.requires.0 _ _ c.before.if1.true c.bit-of.ensures)
+add-if2 : tie.Need-overflow_add-at invariant-loop decreases-loop
+add-if2 c = omega (arith, inside c.before.before.before.before, bit_byte _ c.requires.0 _ _ c.loop-i-test.true c.bit_of-b.ensures)
 
-shared-slice-read-if2 : tie.Need-shared-slice-read-if2 invariant-loop decreases-loop
-shared-slice-read-if2 c = omega (arith, inside c.before.before.before.before.before, bit_byte _ c.before.before.before.before.before.before.before.requires.0 _ _ c.before.before.if1.true c.before.bit-of.ensures)
+shared-slice-read-if2 : tie.Need-bounds-part-at invariant-loop decreases-loop
+shared-slice-read-if2 c = omega (arith, inside c.before.before.before.before.before, bit_byte _ c.requires.0 _ _ c.loop-i-test.true c.bit_of-b.ensures)
 
-returns : tie.Need-returns invariant-loop decreases-loop
+returns : tie.Need-returns-then-part-at-eq0 invariant-loop decreases-loop
 returns c =
     let s = c.before.before.before.before.before.before.before.before in
-    let byte = c.if2.true in
-    sym (c.before.before.before.before.before.loop.invariant ∙ pass-miss _ _ _ _ c.before.before.before.if1.true (bit-clear _ s.requires.0 _ _ c.before.before.before.if1.true c.before.before.bit-of.ensures _ _ (rw c.before.before.before.before.before.before.filter-at.ensures at byte)))
+    let byte = c.if-part-at-eq0.true in
+    sym (c.loop-i.invariant ∙ pass-miss _ _ _ _ c.loop-i-test.true (bit-clear _ s.requires.0 _ _ c.loop-i-test.true c.bit_of-b.ensures _ _ (rw c.filter_at-at.ensures at byte)))
 
-loop-again : tie.Need-loop-preserved invariant-loop decreases-loop
+loop-again : tie.Need-loop-i-preserved invariant-loop decreases-loop
 loop-again c =
     let s = c.before.before.before.before.before.before.before.before in
-    let byte = c.if2.false in
-    c.before.before.before.before.before.loop.invariant ∙ pass-next _ _ _ _ c.before.before.before.if1.true (bit-there _ s.requires.0 _ _ c.before.before.before.if1.true c.before.before.bit-of.ensures _ _ (rw c.before.before.before.before.before.before.filter-at.ensures at byte))
+    let byte = c.if-part-at-eq0.false in
+    c.loop-i.invariant ∙ pass-next _ _ _ _ c.loop-i-test.true (bit-there _ s.requires.0 _ _ c.loop-i-test.true c.bit_of-b.ensures _ _ (rw c.filter_at-at.ensures at byte))
 
-returns-2 : tie.Need-returns-2 invariant-loop decreases-loop
-returns-2 c = sym (c.before.before.loop.invariant ∙ pass-end _ _ _ _ c.if1.false)
+returns-2 : tie.Need-returns invariant-loop decreases-loop
+returns-2 c = sym (c.loop-i.invariant ∙ pass-end _ _ _ _ c.loop-i-test.false)
 
-pub passes-spec : {M : Type 1} → statement M
-passes-spec = tie.close (tie.spec invariant-loop decreases-loop (λ c κs. (c.before.requires.0, omega arith)) loop-holds (λ c κs. (c.before.before.before.before.before.requires.0, c.if1.true)) add-if2 shared-slice-read-if2 (λ c. omega arith) (λ c. omega arith) returns (λ c. omega arith) (λ c. omega arith) loop-again returns-2)
+pub passes_spec : {M : Type 1} → statement M
+passes_spec = tie.close (tie.spec invariant-loop decreases-loop (λ c κs. (c.requires.0, omega arith)) loop-holds (λ c κs. (c.requires.0, c.loop-i-test.true)) add-if2 shared-slice-read-if2 (λ c. omega arith) (λ c. omega arith) returns (λ c. omega arith) (λ c. omega arith) loop-again returns-2)

@@ -9,22 +9,22 @@ use Rattle.geometry.proofs.buffer_at.Tie as tie
 
 returns : tie.Need-returns
 unfolding buffer_at
-returns c = rw c.before.filter-at.ensures
+returns c = rw c.filter_at.ensures
 
-bound : (c : tie.After-struct-known) → let a = c.before.before.args in buffer_at a.g a.q ≤ 540688
-bound c = let p = c.before.before.requires in buffer-at-max _ p.0 _ p.1
+bound : (c : tie.After-struct_known-1) → let a = c.args in buffer_at a.g a.q ≤ 540688
+bound c = let p = c.requires in buffer-at-max _ p.0 _ p.1
 
-cast-result : tie.Need-overflow-cast-result
-cast-result c = omega (arith, c.filter-at.ensures, filter-at-max _ c.before.requires.0 c.before.args.g.kept (omega arith))
+cast-result : tie.Need-overflow_cast-result
+cast-result c = omega (arith, c.filter_at.ensures, filter-at-max _ c.requires.0 c.args.g.kept (omega arith))
 
-mul-result : tie.Need-overflow-mul-result
+mul-result : tie.Need-overflow_mul-result
 mul-result c = omega (arith, returns c, bound c)
 
-add-result : tie.Need-overflow-add-result
+add-result : tie.Need-overflow_add-result
 add-result c = omega (arith, returns c, bound c)
 
-cast-result-2 : tie.Need-overflow-cast-result-2
+cast-result-2 : tie.Need-overflow_cast-result-2
 cast-result-2 c = omega (arith, returns c, bound c)
 
-pub buffer-at-spec : {M : Type 1} → statement M
-buffer-at-spec = tie.close (tie.spec (λ c κs. search rules) cast-result mul-result add-result cast-result-2 returns)
+pub buffer_at_spec : {M : Type 1} → statement M
+buffer_at_spec = tie.close (tie.spec (λ c κs. search rules) cast-result mul-result add-result cast-result-2 returns)

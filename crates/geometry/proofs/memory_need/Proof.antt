@@ -6,7 +6,7 @@ use Rattle.geometry.proofs.memory_need.Tie as tie
 
 returns : tie.Need-returns
 unfolding memory_need
-returns c = rw (c.partition-at.ensures, c.before.partition-count.ensures)
+returns c = rw (c.partition_at.ensures, c.partition_count.ensures)
 
-pub memory-need-spec : {M : Type 1} → statement M
-memory-need-spec = tie.close (tie.spec (λ c κs. search rules) (λ c κs. search rules) returns)
+pub memory_need_spec : {M : Type 1} → statement M
+memory_need_spec = tie.close (tie.spec (λ c κs. search rules) (λ c κs. search rules) returns)

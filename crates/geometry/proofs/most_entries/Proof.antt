@@ -12,20 +12,20 @@ returns : tie.Need-returns
 unfolding most_entries
 returns c = refl
 
-add-result : tie.Need-overflow-add-result
-add-result c = let z = sizes _ c.before.requires in omega arith
+add-result : tie.Need-overflow_add-result
+add-result c = let z = sizes _ c.requires in omega arith
 
-mul-result : tie.Need-overflow-mul-result
+mul-result : tie.Need-overflow_mul-result
 mul-result c =
-    let z = sizes _ c.before.before.requires in
-    let kept : c.before.before.args.g.kept + 1 ≤ 33 = omega arith in
+    let z = sizes _ c.requires in
+    let kept : c.args.g.kept + 1 ≤ 33 = omega arith in
     omega (arith, mul-le-mul kept z.pages-max)
 
-sub-result : tie.Need-overflow-sub-result
-sub-result c = let z = sizes _ c.before.before.before.requires in omega arith
+sub-result : tie.Need-overflow_sub-result
+sub-result c = let z = sizes _ c.requires in omega arith
 
-mul-result-2 : tie.Need-overflow-mul-result-2
-mul-result-2 c = omega (arith, returns c, most-max _ c.before.before.before.requires)
+mul-result-2 : tie.Need-overflow_mul-result-2
+mul-result-2 c = omega (arith, returns c, most-max _ c.requires)
 
-pub most-entries-spec : {M : Type 1} → statement M
-most-entries-spec = tie.close (tie.spec add-result mul-result sub-result mul-result-2 returns)
+pub most_entries_spec : {M : Type 1} → statement M
+most_entries_spec = tie.close (tie.spec add-result mul-result sub-result mul-result-2 returns)

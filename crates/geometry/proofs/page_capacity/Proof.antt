@@ -5,8 +5,8 @@ use Rattle.model.proofs.Sizes.{sizes}
 use Rattle.geometry.proofs.page_capacity.Statement.{statement}
 use Rattle.geometry.proofs.page_capacity.Tie as tie
 
-sub-result : tie.Need-overflow-sub-result
-sub-result c = let z = sizes _ c.before.requires in omega arith
+sub-result : tie.Need-overflow_sub-result
+sub-result c = let z = sizes _ c.requires in omega arith
 
-pub page-capacity-spec : {M : Type 1} → statement M
-page-capacity-spec = tie.close (tie.spec sub-result (λ c. search rules) (λ c. search rules))
+pub page_capacity_spec : {M : Type 1} → statement M
+page_capacity_spec = tie.close (tie.spec sub-result (λ c. search rules) (λ c. search rules))

@@ -8,13 +8,13 @@ use Rattle.geometry.proofs.partition_at.Tie as tie
 
 returns : tie.Need-returns
 unfolding partition_at
-returns c = rw c.partition-size.ensures
+returns c = rw c.partition_size.ensures
 
-mul-result : tie.Need-overflow-mul-result
-mul-result c = omega (arith, returns c, partition-at-max _ c.before.requires.0 _ c.before.requires.1)
+mul-result : tie.Need-overflow_mul-result
+mul-result c = omega (arith, returns c, partition-at-max _ c.requires.0 _ c.requires.1)
 
-add-result : tie.Need-overflow-add-result
-add-result c = omega (arith, returns c, partition-at-max _ c.before.requires.0 _ c.before.requires.1)
+add-result : tie.Need-overflow_add-result
+add-result c = omega (arith, returns c, partition-at-max _ c.requires.0 _ c.requires.1)
 
-pub partition-at-spec : {M : Type 1} → statement M
-partition-at-spec = tie.close (tie.spec (λ c κs. search rules) mul-result add-result returns)
+pub partition_at_spec : {M : Type 1} → statement M
+partition_at_spec = tie.close (tie.spec (λ c κs. search rules) mul-result add-result returns)

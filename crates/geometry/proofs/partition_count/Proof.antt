@@ -4,11 +4,11 @@ use Rattle.model.proofs.Sizes.{sizes}
 use Rattle.geometry.proofs.partition_count.Statement.{statement}
 use Rattle.geometry.proofs.partition_count.Tie as tie
 
-shl-result : tie.Need-overflow-shl-result
-shl-result c = let z = sizes _ c.before.requires in omega arith
+shl-result : tie.Need-overflow_shl-result
+shl-result c = let z = sizes _ c.requires in omega arith
 
 returns : tie.Need-returns
-returns c = let z = sizes _ c.before.requires in omega arith
+returns c = let z = sizes _ c.requires in omega arith
 
-pub partition-count-spec : {M : Type 1} → statement M
-partition-count-spec = tie.close (tie.spec shl-result returns)
+pub partition_count_spec : {M : Type 1} → statement M
+partition_count_spec = tie.close (tie.spec shl-result returns)

@@ -6,7 +6,7 @@ use Rattle.geometry.proofs.partition_size.Tie as tie
 
 returns : tie.Need-returns
 unfolding stride
-returns c = c.buffer-at.ensures
+returns c = c.buffer_at.ensures
 
-pub partition-size-spec : {M : Type 1} → statement M
-partition-size-spec = tie.close (tie.spec (λ c κs. search rules) returns)
+pub partition_size_spec : {M : Type 1} → statement M
+partition_size_spec = tie.close (tie.spec (λ c κs. search rules) returns)

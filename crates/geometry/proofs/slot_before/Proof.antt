@@ -24,5 +24,5 @@ falls k n j h l e =
     let e'' : j ≡ suc (n - 1) % k = e ∙ ap (λ (x : ℕ). x % k) (sym e') in
     ⊎_elim (λ w. (omega arith, omega arith)) (λ w. (omega arith, omega arith)) (rises k (n - 1) h)
 
-pub slot-before-spec : {M : Type 1} → statement M
-slot-before-spec = tie.close (tie.spec (λ c. let z = sizes _ c.before.before.requires in omega arith) (λ c n l e. (falls _ n _ (sizes _ c.before.before.requires).kept-min l e).0 (omega arith)) (λ c. search rules) (λ c n l e. (falls _ n _ (sizes _ c.before.requires).kept-min l e).1 (omega arith)))
+pub slot_before_spec : {M : Type 1} → statement M
+slot_before_spec = tie.close (tie.spec (λ c. let z = sizes _ c.requires in omega arith) (λ c n l e. (falls _ n _ (sizes _ c.requires).kept-min l e).0 (omega arith)) (λ c. search rules) (λ c n l e. (falls _ n _ (sizes _ c.requires).kept-min l e).1 (omega arith)))

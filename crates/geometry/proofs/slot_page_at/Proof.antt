@@ -15,18 +15,18 @@ unfolding slot_page_at
 returns c = refl
 
 -- below 256 * 32 slots, and below 64 blocks for each
-few : (c : tie.After-struct-known) → let a = c.before.args in (a.t * a.g.kept + a.j < 8192) × ((a.t * a.g.kept + a.j) * a.g.pages + a.q < 524288)
+few : (c : tie.After-struct_known-1) → let a = c.args in (a.t * a.g.kept + a.j < 8192) × ((a.t * a.g.kept + a.j) * a.g.pages + a.q < 524288)
 few c =
-    let p = c.before.requires in
+    let p = c.requires in
     let z = sizes _ p.0 in
     let slots = digits_lt p.1.0 p.1.1.0 in
     let most = mul-le-mul z.partitions-max z.kept-max in
     omega (arith, slots, most, digits_lt slots p.1.1.1, mul-le-mul most z.pages-max)
 
-mul-result : tie.Need-overflow-mul-result
+mul-result : tie.Need-overflow_mul-result
 mul-result c =
-    let p = c.before.before.before.requires in
-    omega (arith, returns c, slot-page-fits c.before.before.before.args.g _ _ _ p.1.0 p.1.1.0 p.1.1.1, flash-max _ p.0)
+    let p = c.requires in
+    omega (arith, returns c, slot-page-fits c.args.g _ _ _ p.1.0 p.1.1.0 p.1.1.1, flash-max _ p.0)
 
-pub slot-page-at-spec : {M : Type 1} → statement M
-slot-page-at-spec = tie.close (tie.spec (λ c. search rules) (λ c. omega (arith, few c)) (λ c. omega (arith, few c)) (λ c. search rules) (λ c. omega (arith, few c.before)) (λ c. omega (arith, few c.before)) (λ c. search rules) mul-result returns)
+pub slot_page_at_spec : {M : Type 1} → statement M
+slot_page_at_spec = tie.close (tie.spec (λ c. search rules) (λ c. omega (arith, few c)) (λ c. omega (arith, few c)) (λ c. search rules) (λ c. omega (arith, few c.before)) (λ c. omega (arith, few c.before)) (λ c. search rules) mul-result returns)

@@ -17,7 +17,7 @@ unfolding totalled
 back more less h h' p e e' = rw (e', e)
 
 returns : tie.Need-returns
-returns c = c.before.before.put_back.ensures ∙ back _ _ _ _ _ c.before.before.before.before.read.ensures c.before.before.before.totalled.ensures
+returns c = c.put_back.ensures ∙ back _ _ _ _ _ c.read.ensures c.totalled.ensures
 
-pub change-total-spec : {M : Type 1} → statement M
-change-total-spec = tie.close (tie.spec (λ c κs. search rules) totalled-requires (λ c κs. search rules) (λ c. search rules) returns)
+pub change_total_spec : {M : Type 1} → statement M
+change_total_spec = tie.close (tie.spec (λ c κs. search rules) totalled-requires (λ c κs. search rules) (λ c. search rules) returns)

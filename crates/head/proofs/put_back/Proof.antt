@@ -8,5 +8,5 @@ returns : tie.Need-returns
 unfolding with_head
 returns c = cc
 
-pub put-back-spec : {M : Type 1} → statement M
-put-back-spec = tie.close (tie.spec (λ c κs. search rules) (λ c κs. search rules) (λ c κs. search rules) (λ c κs. search rules) (λ c. search rules) returns)
+pub put_back_spec : {M : Type 1} → statement M
+put_back_spec = tie.close (tie.spec (λ c κs. search rules) (λ c κs. search rules) (λ c κs. search rules) (λ c κs. search rules) (λ c. search rules) returns)

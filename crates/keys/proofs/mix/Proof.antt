@@ -8,5 +8,5 @@ returns : tie.Need-returns
 unfolding mixed
 returns c = refl
 
-pub mix-spec : {M : Type 1} → statement M
-mix-spec = tie.close (tie.spec returns)
+pub mix_spec : {M : Type 1} → statement M
+mix_spec = tie.close (tie.spec returns)

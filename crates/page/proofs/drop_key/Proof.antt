@@ -9,15 +9,15 @@ use Rattle.page.proofs.drop_key.Statement.{statement}
 use Rattle.page.proofs.drop_key.Tie as tie
 
 remove-requires : tie.Need-remove-requires
-remove-requires c κs = let w = first-at _ _ _ _ (told_at c.before.before.before.before.search.ensures c.before.before.i.given.1) in omega arith
+remove-requires c κs = let w = first-at _ _ _ _ (told_at c.search.ensures c.in-At.is) in omega arith
 
-returns : tie.Need-returns
+returns : tie.Need-returns-in-At
 unfolding without taken
-returns c = rw (told_at c.before.before.before.before.before.before.before.search.ensures c.before.before.before.before.before.i.given.1) (c.before.before.remove.ensures, refl)
+returns c = rw (told_at c.search.ensures c.in-At.is) (c.remove.ensures, refl)
 
-returns-2 : tie.Need-returns-2
+returns-2 : tie.Need-returns-in-Nothing
 unfolding without taken
-returns-2 c = rw (told_at c.before.before.search.ensures c.enum_told.given.1) (refl, refl)
+returns-2 c = rw (told_at c.search.ensures c.in-Nothing.is) (refl, refl)
 
-pub drop-key-spec : {M : Type 1} → statement M
-drop-key-spec = tie.close (tie.spec (λ c κs. search rules) (λ c. search rules) remove-requires (λ c. search rules) (λ c. search rules) returns (λ c. search rules) returns-2)
+pub drop_key_spec : {M : Type 1} → statement M
+drop_key_spec = tie.close (tie.spec (λ c κs. search rules) (λ c. search rules) remove-requires (λ c. search rules) (λ c. search rules) returns (λ c. search rules) returns-2)

@@ -8,7 +8,7 @@ use Rattle.page.proofs.empty.Tie as tie
 
 returns : tie.Need-returns
 unfolding emptied
-returns c = let a = c.before.before.before.before.before.before.before.before.before.before.before.before.before.args in cc (sets-all a.page.now (replicate (length a.page.now) 0) (length-replicate _ _))
+returns c = let a = c.args in cc (sets-all a.page.now (replicate (length a.page.now) 0) (length-replicate _ _))
 
-pub empty-spec : {M : Type 1} → statement M
-empty-spec = tie.close (tie.spec (λ c κs. search rules) (λ c κs. search rules) (λ c κs. search rules) (λ c. search rules) returns)
+pub empty_spec : {M : Type 1} → statement M
+empty_spec = tie.close (tie.spec (λ c κs. search rules) (λ c κs. search rules) (λ c κs. search rules) (λ c. search rules) returns)

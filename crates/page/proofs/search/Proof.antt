@@ -4,7 +4,7 @@ use Rattle.page.proofs.search.Statement.{statement}
 use Rattle.page.proofs.search.Tie as tie
 
 returns : tie.Need-returns
-returns c = rw (c.search.ensures, c.before.count.ensures)
+returns c = rw (c.search.ensures, c.count.ensures)
 
-pub search-spec : {M : Type 1} → statement M
-search-spec = tie.close (tie.spec (λ c κs. search rules) (λ c κs. search rules) returns)
+pub search_spec : {M : Type 1} → statement M
+search_spec = tie.close (tie.spec (λ c κs. search rules) (λ c κs. search rules) returns)

@@ -9,18 +9,18 @@ use Rattle.page.proofs.store.Statement.{statement}
 use Rattle.page.proofs.store.Tie as tie
 
 replace-requires : tie.Need-replace-requires
-replace-requires c κs = let w = first-at _ _ _ _ (told_at c.before.before.before.before.search.ensures c.before.before.i.given.1) in omega arith
+replace-requires c κs = let w = first-at _ _ _ _ (told_at c.search.ensures c.in-At.is) in omega arith
 
 append-requires : tie.Need-append-requires
-append-requires c κs = omega (arith, c.before.before.before.before.before.before.requires.1.0 (told_at c.before.before.before.search.ensures c.before.enum_told.given.1))
+append-requires c κs = omega (arith, c.requires.1.0 (told_at c.search.ensures c.in-Nothing.is))
 
-returns : tie.Need-returns
+returns : tie.Need-returns-in-At
 unfolding stored added
-returns c = rw (told_at c.before.before.before.before.before.before.before.search.ensures c.before.before.before.before.before.i.given.1) (c.before.before.replace.ensures, refl)
+returns c = rw (told_at c.search.ensures c.in-At.is) (c.replace.ensures, refl)
 
-returns-2 : tie.Need-returns-2
+returns-2 : tie.Need-returns-in-Nothing
 unfolding stored added
-returns-2 c = rw (told_at c.before.before.before.before.before.before.search.ensures c.before.before.before.before.enum_told.given.1) (c.before.before.append.ensures, refl)
+returns-2 c = rw (told_at c.search.ensures c.in-Nothing.is) (c.append.ensures, refl)
 
 pub store_spec : {M : Type 1} → statement M
 store_spec = tie.close (tie.spec (λ c κs. search rules) (λ c. search rules) replace-requires (λ c. search rules) append-requires (λ c. search rules) returns (λ c. search rules) returns-2)

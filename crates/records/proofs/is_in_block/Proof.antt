@@ -25,29 +25,29 @@ same key e = rw e
 first : (xs : List ℕ) (at r : ℕ) → r ≡ word 8 xs at → r ≡ word 8 xs (at + 0)
 first xs at r e = rw add-zero e
 
-returns : tie.Need-returns
-returns c = any_here _ 3 0 (has (first _ _ _ c.before.u64-at.ensures) c.if1.true)
+returns : tie.Need-returns-then-u64_at-key
+returns c = any_here _ 3 0 (has (first _ _ _ c.u64_at.ensures) c.if-u64_at-key.true)
 
-returns-2 : tie.Need-returns-2
+returns-2 : tie.Need-returns-then-u64_at-key-2
 returns-2 c =
-    any_here _ 2 1 (has c.before.u64-at2.ensures c.if2.true)
-    ∙ any_next _ 3 0 (lacks (first _ _ _ c.before.before.before.u64-at.ensures) c.before.before.if1.false)
+    any_here _ 2 1 (has c.u64_at-2.ensures c.if-u64_at-key-2.true)
+    ∙ any_next _ 3 0 (lacks (first _ _ _ c.u64_at.ensures) c.if-u64_at-key.false)
 
-returns-3 : tie.Need-returns-3
+returns-3 : tie.Need-returns-then-u64_at-key-3
 returns-3 c =
     let e = c.before.before.before in
-    any_here _ 1 2 (has c.before.u64-at3.ensures c.if3.true)
-    ∙ any_next _ 2 1 (lacks e.u64-at2.ensures c.before.before.if2.false)
-    ∙ any_next _ 3 0 (lacks (first _ _ _ e.before.before.u64-at.ensures) e.before.if1.false)
+    any_here _ 1 2 (has c.u64_at-3.ensures c.if-u64_at-key-3.true)
+    ∙ any_next _ 2 1 (lacks e.u64_at-2.ensures c.if-u64_at-key-2.false)
+    ∙ any_next _ 3 0 (lacks (first _ _ _ e.u64_at.ensures) e.if-u64_at-key.false)
 
-returns-4 : tie.Need-returns-4
+returns-4 : tie.Need-returns
 returns-4 c =
     let d = c.before.before in
     let e = d.before.before in
-    same _ c.u64-at4.ensures ∙ any-alone _ 3
-    ∙ any_next _ 1 2 (lacks d.u64-at3.ensures c.before.if3.false)
-    ∙ any_next _ 2 1 (lacks e.u64-at2.ensures d.before.if2.false)
-    ∙ any_next _ 3 0 (lacks (first _ _ _ e.before.before.u64-at.ensures) e.before.if1.false)
+    same _ c.u64_at-4.ensures ∙ any-alone _ 3
+    ∙ any_next _ 1 2 (lacks d.u64_at-3.ensures c.if-u64_at-key-3.false)
+    ∙ any_next _ 2 1 (lacks e.u64_at-2.ensures d.if-u64_at-key-2.false)
+    ∙ any_next _ 3 0 (lacks (first _ _ _ e.u64_at.ensures) e.if-u64_at-key.false)
 
-pub is-in-block-spec : {M : Type 1} → statement M
-is-in-block-spec = tie.close (tie.spec (λ c κs. omega arith) returns (λ c. omega arith) (λ c κs. omega arith) returns-2 (λ c. omega arith) (λ c κs. omega arith) returns-3 (λ c. omega arith) (λ c κs. omega arith) returns-4)
+pub is_in_block_spec : {M : Type 1} → statement M
+is_in_block_spec = tie.close (tie.spec (λ c κs. omega arith) returns (λ c. omega arith) (λ c κs. omega arith) returns-2 (λ c. omega arith) (λ c κs. omega arith) returns-3 (λ c. omega arith) (λ c κs. omega arith) returns-4)

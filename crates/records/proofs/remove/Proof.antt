@@ -9,5 +9,5 @@ use Rattle.records.proofs.remove.Tie as tie
 returns : tie.Need-returns
 returns c = sym (closed_up-one _ _ _ (omega arith) (omega arith) _ (omega arith) ∙ (cc))
 
-pub remove-spec : {M : Type 1} → statement M
-remove-spec = tie.close (tie.spec (λ c. search rules) (λ c. search rules) (λ c. search rules) (λ c. search rules) (λ c. search rules) (λ c. search rules) (λ c. search rules) (λ c κs. search rules) (λ c. search rules) (λ c κs. search rules) (λ c. search rules) returns)
+pub remove_spec : {M : Type 1} → statement M
+remove_spec = tie.close (tie.spec (λ c. search rules) (λ c. search rules) (λ c. search rules) (λ c. search rules) (λ c. search rules) (λ c. search rules) (λ c. search rules) (λ c κs. search rules) (λ c. search rules) (λ c κs. search rules) (λ c. search rules) returns)

@@ -7,5 +7,5 @@ use Rattle.words.proofs.u32_at.Tie as tie
 returns : tie.Need-returns
 returns c = rw (word-add 2 2) (omega arith)
 
-pub u32-at-spec : {M : Type 1} → statement M
-u32-at-spec = tie.close (tie.spec (λ c κs. search rules) (λ c. search rules) (λ c. search rules) (λ c κs. search rules) (λ c. search rules) (λ c. search rules) (λ c. search rules) returns)
+pub u32_at_spec : {M : Type 1} → statement M
+u32_at_spec = tie.close (tie.spec (λ c κs. search rules) (λ c. search rules) (λ c. search rules) (λ c κs. search rules) (λ c. search rules) (λ c. search rules) (λ c. search rules) returns)

@@ -7,5 +7,5 @@ use Rattle.words.proofs.u64_at.Tie as tie
 returns : tie.Need-returns
 returns c = rw (word-add 4 4) (omega arith)
 
-pub u64-at-spec : {M : Type 1} → statement M
-u64-at-spec = tie.close (tie.spec (λ c κs. search rules) (λ c. search rules) (λ c. search rules) (λ c κs. search rules) (λ c. search rules) (λ c. search rules) (λ c. search rules) returns)
+pub u64_at_spec : {M : Type 1} → statement M
+u64_at_spec = tie.close (tie.spec (λ c κs. search rules) (λ c. search rules) (λ c. search rules) (λ c κs. search rules) (λ c. search rules) (λ c. search rules) (λ c. search rules) returns)

@@ -6,5 +6,5 @@ use Rattle.words.proofs.write_u64.Tie as tie
 returns : tie.Need-returns
 returns c = rw (write-add 4 4) (cc)
 
-pub write-u64-spec : {M : Type 1} → statement M
-write-u64-spec = tie.close (tie.spec (λ c. search rules) (λ c κs. search rules) (λ c. search rules) (λ c. search rules) (λ c κs. search rules) (λ c. search rules) returns)
+pub write_u64_spec : {M : Type 1} → statement M
+write_u64_spec = tie.close (tie.spec (λ c. search rules) (λ c κs. search rules) (λ c. search rules) (λ c. search rules) (λ c κs. search rules) (λ c. search rules) returns)

@@ -6,5 +6,5 @@ use Rattle.head.proofs.Head.flushed.Tie as tie
 returns : tie.Need-returns
 returns c = rw c.raised.ensures
 
-pub flushed-spec : {M : Type 1} → statement M
-flushed-spec = tie.close (tie.spec (λ c. search rules) (λ c κs. search rules) returns)
+pub flushed_spec : {M : Type 1} → statement M
+flushed_spec = tie.close (tie.spec (λ c. search rules) (λ c κs. search rules) returns)

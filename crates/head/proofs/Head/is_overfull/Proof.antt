@@ -6,7 +6,7 @@ use Rattle.head.proofs.Head.is_overfull.Statement.{statement}
 use Rattle.head.proofs.Head.is_overfull.Tie as tie
 
 returns : tie.Need-returns
-returns c = rw c.before.before.before.before.most-entries.ensures (sym (overfull-tests _ _))
+returns c = rw c.most_entries.ensures (sym (overfull-tests _ _))
 
-pub is-overfull-spec : {M : Type 1} → statement M
-is-overfull-spec = tie.close (tie.spec (λ c κs. search rules) returns)
+pub is_overfull_spec : {M : Type 1} → statement M
+is_overfull_spec = tie.close (tie.spec (λ c κs. search rules) returns)

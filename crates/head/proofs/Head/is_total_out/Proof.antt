@@ -9,15 +9,15 @@ use Rattle.model.proofs.Heads.{head-fits, total-below}
 use Rattle.head.proofs.Head.is_total_out.Statement.{statement}
 use Rattle.head.proofs.Head.is_total_out.Tie as tie
 
-add_total : tie.Need-overflow-add-total
-add_total c = let p = c.before.requires in omega (arith, most-max _ p.0, (head-fits _ _ p.1.0).total)
+add_total : tie.Need-overflow_add-total
+add_total c = let p = c.requires in omega (arith, most-max _ p.0, (head-fits _ _ p.1.0).total)
 
-returns : tie.Need-returns
+returns : tie.Need-returns-then-total-less
 returns c = sym (total-below _ _ _ _ (omega arith))
 
-returns-2 : tie.Need-returns-2
+returns-2 : tie.Need-returns
 unfolding total_out
-returns-2 c = rw (le-ltb _ _ c.before.if1.false, c.most-entries.ensures)
+returns-2 c = rw (le-ltb _ _ c.if-total-less.false, c.most_entries.ensures)
 
-pub is-total-out-spec : {M : Type 1} → statement M
-is-total-out-spec = tie.close (tie.spec add_total returns (λ c κs. search rules) returns-2)
+pub is_total_out_spec : {M : Type 1} → statement M
+is_total_out_spec = tie.close (tie.spec add_total returns (λ c κs. search rules) returns-2)
