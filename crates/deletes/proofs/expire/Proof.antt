@@ -26,8 +26,8 @@ stamp c = c.u32_at-stamp.ensures ∙ closed-word c.loop-i.invariant.3 (omega ari
 turn : (c : tie.Joined-stamp-back invariant-loop decreases-loop) → let a = c.args in Closed (expiring a.back a.flushes a.list.now) (c.loop-i.i + 1) a.list.now c.if-stamp-back.list c.if-stamp-back.stay
 turn c =
     ⊎_elim
-    (λ w. rw (w.list-is ∙ w.move_down.ensures, w.stay-is) (closed-kept c.loop-i.invariant.3 (ne_eqb _ _ (λ e. w.if-stamp-back.taken (rw (stamp c.before) e))) (omega arith)))
-    (λ w. rw (w.list-is, w.stay-is) (closed-gone c.loop-i.invariant.3 (eq-eqb _ _ (rw (stamp c.before) at w.if-stamp-back.left))))
+    (λ w. rw (w.list-is ∙ w.move_down.ensures, w.stay-is) (closed-kept c.loop-i.invariant.3 (ne_eqb _ _ (λ e. w.if-stamp-back.true (rw (stamp c.before) e))) (omega arith)))
+    (λ w. rw (w.list-is, w.stay-is) (closed-gone c.loop-i.invariant.3 (eq-eqb _ _ (rw (stamp c.before) at w.if-stamp-back.false))))
     c.if-stamp-back.branch-raw
 
 loop-again : tie.Need-loop-i-preserved invariant-loop decreases-loop

@@ -6,14 +6,14 @@ use borrow.Author.Rules.{rules}
 use Rattle.figures.proofs.narrow_past.Statement.{statement}
 use Rattle.figures.proofs.narrow_past.Tie as tie
 
-returns : tie.Need-returns
-returns c = sym (known (number_in _) c.before.before.number_past.ensures c.enum_told.given.1)
+returns : tie.Need-returns-in_default
+returns c = sym (known (number_in _) c.number_past.ensures c.in_default.is)
 
-cast-t7 : tie.Need-overflow-cast-t7
-cast-t7 c = record { fits = read_below _ _ _ _ (known (number_in _) c.before.before.before.number_past.ensures c.before.n.given.1) }
+cast-t7 : tie.Need-overflow_cast-result
+cast-t7 c = record { fits = read_below _ _ _ _ (known (number_in _) c.number_past.ensures c.in-Read.is) }
 
-returns-2 : tie.Need-returns-2
-returns-2 c = sym (known (number_in _) c.before.before.before.number_past.ensures c.before.n.given.1)
+returns-2 : tie.Need-returns
+returns-2 c = sym (known (number_in _) c.number_past.ensures c.in-Read.is)
 
-pub narrow-past-spec : {M : Type 1} → statement M
-narrow-past-spec = tie.close (tie.spec (λ c κs. search rules) (λ c. search rules) (λ c. search rules) returns cast-t7 returns-2)
+pub narrow_past_spec : {M : Type 1} → statement M
+narrow_past_spec = tie.close (tie.spec (λ c κs. search rules) (λ c. search rules) (λ c. search rules) returns cast-t7 returns-2)

@@ -8,26 +8,26 @@ use Rattle.model.proofs.Texts.{past_next, past-other, past-short, past-whole}
 use Rattle.figures.proofs.text_past.Statement.{statement}
 use Rattle.figures.proofs.text_past.Tie as tie
 
-abbrev invariant-loop : tie.invariant-loop
+abbrev invariant-loop : tie.invariant-loop-i
 invariant-loop line at text i₀ next₀ i next = past (drop i text) (drop next line) ≡ past text (drop at line)
 
-abbrev decreases-loop : tie.decreases-loop
+abbrev decreases-loop : tie.decreases-loop-i
 decreases-loop line at text i₀ next₀ i next = length text - i
 
-loop-holds : tie.Need-loop-init invariant-loop decreases-loop
+loop-holds : tie.Need-loop-i-init invariant-loop decreases-loop
 loop-holds c = refl
 
-returns : tie.Need-returns invariant-loop decreases-loop
-returns c = sym (sym c.before.before.loop.invariant ∙ past-short _ _ _ _ c.before.loop-test.true c.if1.true)
+returns : tie.Need-returns-then-next-line invariant-loop decreases-loop
+returns c = sym (sym c.loop-i.invariant ∙ past-short _ _ _ _ c.loop-i-test.true c.if-next-line.true)
 
-returns-2 : tie.Need-returns-2 invariant-loop decreases-loop
-returns-2 c = sym (sym c.before.before.before.before.before.loop.invariant ∙ past-other _ _ _ _ c.before.before.before.before.loop-test.true c.before.before.before.if1.false c.if2.true)
+returns-2 : tie.Need-returns-then-line-next invariant-loop decreases-loop
+returns-2 c = sym (sym c.loop-i.invariant ∙ past-other _ _ _ _ c.loop-i-test.true c.if-next-line.false c.if-line-next.true)
 
-loop-again : tie.Need-loop-preserved invariant-loop decreases-loop
-loop-again c = sym (past_next _ _ _ _ c.before.before.before.before.loop-test.true c.before.before.before.if1.false c.if2.false) ∙ c.before.before.before.before.before.loop.invariant
+loop-again : tie.Need-loop-i-preserved invariant-loop decreases-loop
+loop-again c = sym (past_next _ _ _ _ c.loop-i-test.true c.if-next-line.false c.if-line-next.false) ∙ c.loop-i.invariant
 
-returns-3 : tie.Need-returns-3 invariant-loop decreases-loop
-returns-3 c = sym (past-whole _ _ _ c.loop-test.false) ∙ c.before.loop.invariant
+returns-3 : tie.Need-returns invariant-loop decreases-loop
+returns-3 c = sym (past-whole _ _ _ c.loop-i-test.false) ∙ c.loop-i.invariant
 
-pub text-past-spec : {M : Type 1} → statement M
-text-past-spec = tie.close (tie.spec invariant-loop decreases-loop loop-holds returns (λ c. omega arith) (λ c. omega arith) returns-2 (λ c. omega arith) (λ c. omega arith) (λ c. omega arith) loop-again returns-3)
+pub text_past_spec : {M : Type 1} → statement M
+text_past_spec = tie.close (tie.spec invariant-loop decreases-loop loop-holds returns (λ c. omega arith) (λ c. omega arith) returns-2 (λ c. omega arith) (λ c. omega arith) (λ c. omega arith) loop-again returns-3)

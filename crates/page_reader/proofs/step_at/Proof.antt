@@ -7,13 +7,13 @@ use native.Mathlib.Omega.{arith}
 use Rattle.page_reader.proofs.step_at.Statement.{statement}
 use Rattle.page_reader.proofs.step_at.Tie as tie
 
-returns : tie.Need-returns
+returns : tie.Need-returns-then-count-place
 unfolding step_at
-returns c = let args = c.before.before.before.args in rw (lt-leb args.place (count_of args.page.now) (omega arith))
+returns c = let args = c.args in rw (lt-leb args.place (count_of args.page.now) (omega arith))
 
-returns-2 : tie.Need-returns-2
+returns-2 : tie.Need-returns
 unfolding step_at
-returns-2 c = let args = c.before.before.before.before.before.args in rw (le-leb args.place (count_of args.page.now) (omega arith), c.before.u64-at.ensures, c.value-at.ensures)
+returns-2 c = let args = c.args in rw (le-leb args.place (count_of args.page.now) (omega arith), c.u64_at.ensures, c.value_at.ensures)
 
-pub step-at-spec : {M : Type 1} → statement M
-step-at-spec = tie.close (tie.spec (λ c κs. search rules) returns (λ c. search rules) (λ c κs. search rules) (λ c κs. search rules) returns-2)
+pub step_at_spec : {M : Type 1} → statement M
+step_at_spec = tie.close (tie.spec (λ c κs. search rules) returns (λ c. search rules) (λ c κs. search rules) (λ c κs. search rules) returns-2)

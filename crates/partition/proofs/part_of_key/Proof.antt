@@ -5,11 +5,11 @@ use Rattle.model.proofs.Sizes.{partition-of-lt}
 use Rattle.partition.proofs.part_of_key.Statement.{statement}
 use Rattle.partition.proofs.part_of_key.Tie as tie
 
-part-of-requires : tie.Need-part-of-requires
-part-of-requires c κs = let s = c.before.before in (s.requires.0, (s.requires.1, rw c.partition-of.ensures (partition-of-lt _ s.requires.0 s.args.key (omega arith))))
+part-of-requires : tie.Need-part_of-requires
+part-of-requires c κs = let s = c.before.before in (s.requires.0, (s.requires.1, rw c.partition_of.ensures (partition-of-lt _ s.requires.0 s.args.key (omega arith))))
 
 returns : tie.Need-returns
-returns c = rw (c.part_of.ensures, c.before.partition-of.ensures)
+returns c = rw (c.part_of.ensures, c.partition_of.ensures)
 
-pub part-of-key-spec : {M : Type 1} → statement M
-part-of-key-spec = tie.close (tie.spec (λ c κs. search rules) part-of-requires returns)
+pub part_of_key_spec : {M : Type 1} → statement M
+part_of_key_spec = tie.close (tie.spec (λ c κs. search rules) part-of-requires returns)

@@ -6,14 +6,14 @@ use borrow.Author.Rules.{rules}
 use Rattle.printer.proofs.put_length.Statement.{statement}
 use Rattle.printer.proofs.put_length.Tie as tie
 
-add-result : tie.Need-overflow-add-result
-add-result c = omega (arith, length-decimal c.before.args.key)
+add-result : tie.Need-overflow_add-result
+add-result c = omega (arith, length-decimal c.args.key)
 
-add-result-2 : tie.Need-overflow-add-result-2
-add-result-2 c = let args = c.before.before.args in omega (arith, length-decimal args.key, length-decimal args.value)
+add-result-2 : tie.Need-overflow_add-result-2
+add-result-2 c = let args = c.args in omega (arith, length-decimal args.key, length-decimal args.value)
 
 returns : tie.Need-returns
-returns c = let args = c.before.before.args in omega (arith, length-put-text args.key args.value)
+returns c = let args = c.args in omega (arith, length-put-text args.key args.value)
 
-pub put-length-spec : {M : Type 1} → statement M
-put-length-spec = tie.close (tie.spec (λ c κs. search rules) add-result (λ c κs. search rules) add-result-2 returns)
+pub put_length_spec : {M : Type 1} → statement M
+put_length_spec = tie.close (tie.spec (λ c κs. search rules) add-result (λ c κs. search rules) add-result-2 returns)

@@ -8,14 +8,14 @@ use borrow.Author.Rules.{rules}
 use Rattle.reader.proofs.read.ending.Statement.{statement}
 use Rattle.reader.proofs.read.ending.Tie as tie
 
-returns : tie.Need-returns
-returns c = sym (end-lacks (form_call c.before.before.before.before.before.args.form) _ (known (behind_in _) c.before.before.text-past.ensures c.enum_told.given.1))
+returns : tie.Need-returns-in_default
+returns c = sym (end-lacks (form_call c.args.form) _ (known (behind_in _) c.text_past.ensures c.in_default.is))
 
-returns-2 : tie.Need-returns-2
-returns-2 c = sym (end-follows _ _ (form_call c.before.before.before.before.before.before.before.args.form) _ (known (behind_in _) c.before.before.before.before.text-past.ensures c.before.before.next.given.1) c.if1.true)
+returns-2 : tie.Need-returns-then-next-line
+returns-2 c = sym (end-follows _ _ (form_call c.args.form) _ (known (behind_in _) c.text_past.ensures c.in-At.is) c.if-next-line.true)
 
-returns-3 : tie.Need-returns-3
-returns-3 c = sym (end-here _ _ _ _ (known (behind_in _) c.before.before.before.before.text-past.ensures c.before.before.next.given.1) c.if1.false)
+returns-3 : tie.Need-returns
+returns-3 c = sym (end-here _ _ _ _ (known (behind_in _) c.text_past.ensures c.in-At.is) c.if-next-line.false)
 
-pub ending-spec : {M : Type 1} → statement M
-ending-spec = tie.close (tie.spec (λ c κs. search rules) (λ c. search rules) (λ c. search rules) returns returns-2 returns-3)
+pub ending_spec : {M : Type 1} → statement M
+ending_spec = tie.close (tie.spec (λ c κs. search rules) (λ c. search rules) (λ c. search rules) returns returns-2 returns-3)

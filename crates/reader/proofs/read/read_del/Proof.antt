@@ -9,11 +9,11 @@ use Rattle.reader.proofs.read.read_del.Tie as tie
 
 returns : tie.Need-returns
 unfolding del_line
-returns c = sym (step (number_in _) _ c.before.before.number_past.ensures c.enum_told.given.1)
+returns c = sym (step (number_in _) _ c.number_past.ensures c.in_default.is)
 
-returns-2 : tie.Need-returns-2
+returns-2 : tie.Need-returns
 unfolding del_line
-returns-2 c = c.ending.ensures ∙ sym (step (number_in _) _ c.before.before.before.before.before.number_past.ensures c.before.before.before.key.given.1)
+returns-2 c = c.ending.ensures ∙ sym (step (number_in _) _ c.number_past.ensures c.in-Read.is)
 
-pub read-del-spec : {M : Type 1} → statement M
-read-del-spec = tie.close (tie.spec (λ c. search rules) (λ c κs. search rules) (λ c. search rules) (λ c. search rules) returns (λ c. search rules) (λ c κs. search rules) returns-2)
+pub read_del_spec : {M : Type 1} → statement M
+read_del_spec = tie.close (tie.spec (λ c. search rules) (λ c κs. search rules) (λ c. search rules) (λ c. search rules) returns (λ c. search rules) (λ c κs. search rules) returns-2)

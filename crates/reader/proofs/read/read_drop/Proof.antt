@@ -9,11 +9,11 @@ use Rattle.reader.proofs.read.read_drop.Tie as tie
 
 returns : tie.Need-returns
 unfolding drop_line
-returns c = sym (step (narrow_in _) _ c.before.before.narrow-past.ensures c.enum_told.given.1)
+returns c = sym (step (narrow_in _) _ c.narrow_past.ensures c.in_default.is)
 
-returns-2 : tie.Need-returns-2
+returns-2 : tie.Need-returns
 unfolding drop_line
-returns-2 c = c.ending.ensures ∙ sym (step (narrow_in _) _ c.before.before.before.before.before.narrow-past.ensures c.before.before.before.partition.given.1)
+returns-2 c = c.ending.ensures ∙ sym (step (narrow_in _) _ c.narrow_past.ensures c.in-Read.is)
 
-pub read-drop-spec : {M : Type 1} → statement M
-read-drop-spec = tie.close (tie.spec (λ c. search rules) (λ c κs. search rules) (λ c. search rules) (λ c. search rules) returns (λ c. search rules) (λ c κs. search rules) returns-2)
+pub read_drop_spec : {M : Type 1} → statement M
+read_drop_spec = tie.close (tie.spec (λ c. search rules) (λ c κs. search rules) (λ c. search rules) (λ c. search rules) returns (λ c. search rules) (λ c κs. search rules) returns-2)

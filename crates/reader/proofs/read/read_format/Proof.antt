@@ -26,37 +26,37 @@ abbrev after-three : ThreeFigures → Option Call
 after-three a = three_past (text ") (kept ") (text ") (bits ") (text ") (hashes ") a.rest (after-six a)
 
 -- the line, and where its first three numbers were read
-abbrev line : tie.After-parts → List ℕ
-line c = c.before.before.before.before.before.before.before.args.line.now
+abbrev line : tie.In-Read-2 → List ℕ
+line c = c.args.line.now
 
-abbrev at-parts : tie.After-kept → tie.After-parts
-at-parts c = c.before.before.before.before.before.before.before
+abbrev at-parts : tie.In-Read-three_past-2 → tie.In-Read-2
+at-parts c = c.before.before.before.before.before.before.before.before.before.before
 
-abbrev first_three : tie.After-parts → ThreeFigures
-first_three c = let w = c.parts.given.0 in record { first = w.0; second = w.1.0; third = w.1.1.0; rest = drop w.1.1.1.0 (line c) }
+abbrev first_three : tie.In-Read-2 → ThreeFigures
+first_three c = let w = c.parts-1.given.0 in record { first = w.0; second = w.1.0; third = w.1.1.0; rest = drop w.1.1.1.0 (line c) }
 
-abbrev second-three : tie.After-kept → ThreeFigures
-second-three c = let w = c.kept.given.0 in record { first = w.0; second = w.1.0; third = w.1.1.0; rest = drop w.1.1.1.0 (line (at-parts c)) }
+abbrev second-three : tie.In-Read-three_past-2 → ThreeFigures
+second-three c = let w = c.kept-1.given.0 in record { first = w.0; second = w.1.0; third = w.1.1.0; rest = drop w.1.1.1.0 (line (at-parts c)) }
 
-front : (c : tie.After-parts) → format_line (line c) ≡ after-three (first_three c)
+front : (c : tie.In-Read-2) → format_line (line c) ≡ after-three (first_three c)
 unfolding format_line
-front c = known-then (three_in _) after-three (c.before.before.three-past.ensures after-three) c.parts.given.1
+front c = known-then (three_in _) after-three (c.three_past.ensures after-three) c.in-Read.is
 
-middle : (c : tie.After-kept) → format_line (line (at-parts c)) ≡ after-six (first_three (at-parts c)) (second-three c)
-middle c = front (at-parts c) ∙ known-then (three_in _) (after-six (first_three (at-parts c))) (c.before.before.three-past2.ensures (after-six (first_three (at-parts c)))) c.kept.given.1
+middle : (c : tie.In-Read-three_past-2) → format_line (line (at-parts c)) ≡ after-six (first_three (at-parts c)) (second-three c)
+middle c = front (at-parts c) ∙ known-then (three_in _) (after-six (first_three (at-parts c))) (c.three_past-2.ensures (after-six (first_three (at-parts c)))) c.in-Read-three_past.is
 
 returns : tie.Need-returns
 unfolding format_line
-returns c = sym (known-then (three_in _) after-three (c.before.before.three-past.ensures after-three) c.enum_told.given.1)
+returns c = sym (known-then (three_in _) after-three (c.three_past.ensures after-three) c.in_default.is)
 
-returns-2 : tie.Need-returns-2
-returns-2 c = sym (front c.before.before.before.before.before.before.before ∙ known-then (three_in _) (after-six (first_three c.before.before.before.before.before.before.before)) (c.before.before.three-past2.ensures (after-six (first_three c.before.before.before.before.before.before.before))) c.enum-told2.given.1)
+returns-2 : tie.Need-returns-in_default-three_past
+returns-2 c = sym (front c.before.before.before.before.before.before.before ∙ known-then (three_in _) (after-six (first_three c.before.before.before.before.before.before.before)) (c.three_past-2.ensures (after-six (first_three c.before.before.before.before.before.before.before))) c.in_default-three_past.is)
 
-returns-3 : tie.Need-returns-3
-returns-3 c = sym (middle c.before.before.before.before.before ∙ step (narrow_in _) _ c.before.before.narrow-past.ensures c.enum-told3.given.1)
+returns-3 : tie.Need-returns-in_default-narrow_past
+returns-3 c = sym (middle c.before.before.before.before.before ∙ step (narrow_in _) _ c.narrow_past.ensures c.in_default-narrow_past.is)
 
-returns-4 : tie.Need-returns-4
-returns-4 c = c.ending.ensures ∙ sym (middle c.before.before.before.before.before.before.before.before ∙ step (narrow_in _) _ c.before.before.before.before.before.narrow-past.ensures c.before.before.before.list.given.1)
+returns-4 : tie.Need-returns
+returns-4 c = c.ending.ensures ∙ sym (middle c.before.before.before.before.before.before.before.before ∙ step (narrow_in _) _ c.narrow_past.ensures c.in-Read-narrow_past.is)
 
-pub read-format-spec : {M : Type 1} → statement M
-read-format-spec = tie.close (tie.spec (λ c. search rules) (λ c. search rules) (λ c. search rules) (λ c κs. search rules) (λ c. search rules) (λ c. search rules) returns (λ c. search rules) (λ c. search rules) (λ c. search rules) (λ c κs. search rules) (λ c. search rules) (λ c. search rules) returns-2 (λ c. search rules) (λ c κs. search rules) (λ c. search rules) (λ c. search rules) returns-3 (λ c. search rules) (λ c κs. search rules) returns-4)
+pub read_format_spec : {M : Type 1} → statement M
+read_format_spec = tie.close (tie.spec (λ c. search rules) (λ c. search rules) (λ c. search rules) (λ c κs. search rules) (λ c. search rules) (λ c. search rules) returns (λ c. search rules) (λ c. search rules) (λ c. search rules) (λ c κs. search rules) (λ c. search rules) (λ c. search rules) returns-2 (λ c. search rules) (λ c κs. search rules) (λ c. search rules) (λ c. search rules) returns-3 (λ c. search rules) (λ c κs. search rules) returns-4)

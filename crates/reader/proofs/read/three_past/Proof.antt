@@ -6,21 +6,21 @@ use borrow.Author.Rules.{rules}
 use Rattle.reader.proofs.read.three_past.Statement.{statement}
 use Rattle.reader.proofs.read.three_past.Tie as tie
 
-returns : tie.Need-returns
-returns c f = sym (step (narrow_in _) _ c.before.before.narrow-past.ensures c.enum_told.given.1)
+returns : tie.Need-returns-in_default
+returns c f = sym (step (narrow_in _) _ c.narrow_past.ensures c.in_default.is)
 
-returns-2 : tie.Need-returns-2
-returns-2 c f = sym (step (narrow_in _) _ c.before.before.before.before.before.before.narrow-past.ensures c.before.before.before.before.a.given.1 ∙ step (narrow_in _) _ c.before.before.narrow-past2.ensures c.enum-told2.given.1)
+returns-2 : tie.Need-returns-in_default-narrow_past
+returns-2 c f = sym (step (narrow_in _) _ c.narrow_past.ensures c.in-Read.is ∙ step (narrow_in _) _ c.narrow_past-2.ensures c.in_default-narrow_past.is)
 
-returns-3 : tie.Need-returns-3
+returns-3 : tie.Need-returns-in_default-narrow_past-2
 returns-3 c f =
     let second = c.before.before.before.before.before.before in
-    sym (step (narrow_in _) _ second.before.before.before.before.narrow-past.ensures second.before.before.a.given.1 ∙ step (narrow_in _) _ second.narrow-past2.ensures c.before.before.before.before.b.given.1 ∙ step (narrow_in _) _ c.before.before.narrow-past3.ensures c.enum-told3.given.1)
+    sym (step (narrow_in _) _ second.narrow_past.ensures second.in-Read.is ∙ step (narrow_in _) _ second.narrow_past-2.ensures c.in-Read-narrow_past.is ∙ step (narrow_in _) _ c.narrow_past-3.ensures c.in_default-narrow_past-2.is)
 
-returns-4 : tie.Need-returns-4
+returns-4 : tie.Need-returns
 returns-4 c f =
     let second = c.before.before.before.before.before.before.before in
-    sym (step (narrow_in _) _ second.before.before.before.before.narrow-past.ensures second.before.before.a.given.1 ∙ step (narrow_in _) _ second.narrow-past2.ensures c.before.before.before.before.before.b.given.1 ∙ step (narrow_in _) _ c.before.before.before.narrow-past3.ensures c.before.c.given.1)
+    sym (step (narrow_in _) _ second.narrow_past.ensures second.in-Read.is ∙ step (narrow_in _) _ second.narrow_past-2.ensures c.in-Read-narrow_past.is ∙ step (narrow_in _) _ c.narrow_past-3.ensures c.in-Read-narrow_past-2.is)
 
-pub three-past-spec : {M : Type 1} → statement M
-three-past-spec = tie.close (tie.spec (λ c κs. search rules) (λ c. search rules) (λ c. search rules) returns (λ c κs. search rules) (λ c. search rules) (λ c. search rules) returns-2 (λ c κs. search rules) (λ c. search rules) (λ c. search rules) returns-3 returns-4)
+pub three_past_spec : {M : Type 1} → statement M
+three_past_spec = tie.close (tie.spec (λ c κs. search rules) (λ c. search rules) (λ c. search rules) returns (λ c κs. search rules) (λ c. search rules) (λ c. search rules) returns-2 (λ c κs. search rules) (λ c. search rules) (λ c. search rules) returns-3 returns-4)

@@ -1,0 +1,12 @@
+-- It is the definition's text of a refusal.
+use Rattle.std.proofs.Common.{arith}
+use Rattle.printer.proofs.Printing.{room-two}
+use Rattle.model.specs.Session.{answer_text}
+use Rattle.printer.proofs.write_refusal.Goals as goal
+
+pub write_two-requires : goal.write_two-requires
+write_two-requires c = room-two _ _ _ (omega arith) (omega arith) _ _
+
+pub returns : goal.returns
+unfolding answer_text
+returns c = c.write_two.ensures
