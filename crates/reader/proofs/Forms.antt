@@ -3,15 +3,12 @@ use mathlib.Core.Path.{◌≡◌, refl}
 use mathlib.Core.List.{List, [], ◌∷◌}
 use mathlib.Core.Option.{Option, none, some}
 use Prim.Native.Nat.{ℕ, ◌≤◌, ◌<◌}
-use types.Run.{OneOf, miss}
-use denote.Enum.Declared.{tag_of}
 use lib.ListN.{length, drop, drop_of_length-le}
 use lib.Seq.{drop-cons}
 use Rattle.model.specs.Calls.{Call}
 use Rattle.model.specs.Session.{then, or_else, at_end}
 use Rattle.reader.specs.declared.Form.{Form}
 use Rattle.reader.specs.Forms.{form_call}
-use Rattle.reader.specs.contracts.Form.{the_type}
 
 -- ---- the end of a line, behind a fixed text that leaves p
 abbrev closing : Option Call → Option (List ℕ) → Option Call
@@ -31,7 +28,7 @@ module _ (line : List ℕ) (next : ℕ) where
   end-here (some c) p e l = rw (e, drop_of_length-le line l)
 
 -- ---- the first form that is not Bad
-pub first-call : (f : Form) {o : Option Call} (rest : Option Call) → form_call f ≡ o → OneOf (0 ∷ 1 ∷ 2 ∷ 3 ∷ 4 ∷ 5 ∷ 6 ∷ []) (tag_of the_type f) → form_call f ≡ or_else o rest
+pub first-call : (f : Form) {o : Option Call} (rest : Option Call) → form_call f ≡ o → (f ≡ Form.Bad → ⊥) → form_call f ≡ or_else o rest
 first-call (Form.Format g) rest e h = rw (← e)
 first-call (Form.Put k v) rest e h = rw (← e)
 first-call (Form.Get k) rest e h = rw (← e)
@@ -39,4 +36,4 @@ first-call (Form.Del k) rest e h = rw (← e)
 first-call (Form.Flush t) rest e h = rw (← e)
 first-call (Form.Count t) rest e h = rw (← e)
 first-call (Form.Drop t) rest e h = rw (← e)
-first-call Form.Bad rest e h = absurd (miss (0 ∷ 1 ∷ 2 ∷ 3 ∷ 4 ∷ 5 ∷ 6 ∷ []) 7 tt h)
+first-call Form.Bad rest e h = absurd (h refl)

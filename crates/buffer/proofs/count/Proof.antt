@@ -9,14 +9,14 @@ use Rattle.model.proofs.Sizes.{sizes}
 use Rattle.model.proofs.Words.{word-mid}
 use Rattle.partition.proofs.Inside.{page-inside}
 
-u16-at-requires : tie.Need-u16-at-requires
-u16-at-requires c κs = let w = c.before.before.requires.0 in omega (arith, sizes _ w.fine, page-inside _ _ w _ c.before.before.requires.1)
+u16-at-requires : tie.Need-u16_at-requires
+u16-at-requires c κs = let w = c.requires.0 in omega (arith, sizes _ w.fine, page-inside _ _ w _ c.requires.1)
 
 returns : tie.Need-returns
 returns c =
-    let z = sizes _ c.before.before.before.requires.0.fine in
-    let small : 0 + 2 ≤ c.before.before.before.args.g.page = omega arith in
-    rw (c.u16-at.ensures, c.before.buffer-at.ensures, word-mid 2 _ _ _ 0 small, add-zero)
+    let z = sizes _ c.requires.0.fine in
+    let small : 0 + 2 ≤ c.args.g.page = omega arith in
+    rw (c.u16_at.ensures, c.buffer_at.ensures, word-mid 2 _ _ _ 0 small, add-zero)
 
 pub count_spec : {M : Type 1} → statement M
 count_spec = tie.close (tie.spec (λ c κs. search rules) u16-at-requires (λ c. search rules) returns)

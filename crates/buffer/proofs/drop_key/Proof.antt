@@ -12,10 +12,10 @@ use Rattle.partition.proofs.Inside.{LentPage, lends-page}
 use Rattle.buffer.proofs.drop_key.Statement.{statement}
 use Rattle.buffer.proofs.drop_key.Tie as tie
 
-lent : (c : tie.After-struct-known) → let a = c.before.before.before.args in LentPage a.g (page_of a.g a.key) a.part.now c.before.page-at.result
-lent c = let s = c.before.before.before in lends-page _ _ s.requires.0 _ _ (page-of-lt _ s.requires.0.fine _) c.before.page-at.ensures
+lent : (c : tie.After-struct_known-1) → let a = c.args in LentPage a.g (page_of a.g a.key) a.part.now c.page_at-a.result
+lent c = let s = c.before.before.before in lends-page _ _ s.requires.0 _ _ (page-of-lt _ s.requires.0.fine _) c.page_at-a.ensures
 
-drop-key-requires : tie.Need-drop-key-requires
+drop-key-requires : tie.Need-drop_key-requires
 drop-key-requires c κs =
     let s = c.before.before.before.before in
     let z = sizes _ s.requires.0.fine in
@@ -26,10 +26,10 @@ drop-key-requires c κs =
 returns : tie.Need-returns
 unfolding unbuffered
 returns c =
-    let a = c.before.before.before.before.before.before.before.args in
+    let a = c.args in
     let l = lent c.before.before.before.before in
-    let r = c.before.before.drop-key.ensures in
+    let r = c.drop_key.ensures in
     (l.back (without a.key) (length_without a.key) _ r.0, r.1 ∙ ap (taken a.key) l.own)
 
-pub drop-key-spec : {M : Type 1} → statement M
-drop-key-spec = tie.close (tie.spec (λ c κs. c.before.requires.0.fine) (λ c. search rules) (λ c. omega (arith, (lent c).inside)) (λ c. search rules) (λ c. search rules) (λ c. omega (arith, (lent c).inside)) drop-key-requires (λ c. search rules) returns)
+pub drop_key_spec : {M : Type 1} → statement M
+drop_key_spec = tie.close (tie.spec (λ c κs. c.requires.0.fine) (λ c. search rules) (λ c. omega (arith, (lent c).inside)) (λ c. search rules) (λ c. search rules) (λ c. omega (arith, (lent c).inside)) drop-key-requires (λ c. search rules) returns)

@@ -6,8 +6,8 @@ use Rattle.partition.proofs.Inside.{LentPage, lends-page}
 use Rattle.buffer.proofs.find.Statement.{statement}
 use Rattle.buffer.proofs.find.Tie as tie
 
-lent : (c : tie.After-struct-known) → let a = c.before.before.before.args in LentPage a.g a.q a.part.now c.before.buffer-at.result
-lent c = let s = c.before.before.before in lends-page _ _ s.requires.0 _ _ s.requires.1.0 c.before.buffer-at.ensures
+lent : (c : tie.After-struct_known-1) → let a = c.args in LentPage a.g a.q a.part.now c.buffer_at-a.result
+lent c = let s = c.before.before.before in lends-page _ _ s.requires.0 _ _ s.requires.1.0 c.buffer_at-a.ensures
 
 search-requires : tie.Need-search-requires
 search-requires c κs =

@@ -26,29 +26,29 @@ some-entry n h = rw (ne_eqb n 0 h)
 no-entry : (n : ℕ) → n ≡ 0 → not (eqb n 0) ≡ false
 no-entry n h = rw (eq-eqb n 0 h)
 
-abbrev invariant-loop : tie.invariant-loop
+abbrev invariant-loop : tie.invariant-loop-q
 invariant-loop part g q₀ q = (q ≤ g.pages) × (in_use g part ≡ is_some (first_from (g.pages - q) q (used g part)))
 
-abbrev decreases-loop : tie.decreases-loop
+abbrev decreases-loop : tie.decreases-loop-q
 decreases-loop part g q₀ q = g.pages - q
 
-loop-holds : tie.Need-loop-init invariant-loop decreases-loop
+loop-holds : tie.Need-loop-q-init invariant-loop decreases-loop
 loop-holds c = (omega arith, rw sub-zero)
 
-returns : tie.Need-returns invariant-loop decreases-loop
+returns : tie.Need-returns-then-count-ne0 invariant-loop decreases-loop
 returns c =
-    let a = c.before.before.before.before.before.before.args in
-    let l = c.before.before.before.before.loop in
+    let a = c.args in
+    let l = c.loop-q in
     sym (l.invariant.1 ∙ ap is_some (first-here (used a.g a.part.now) a.g.pages l.q (omega arith) (some-entry (count_of (buffer_of a.g a.part.now l.q)) (omega arith))))
 
-loop-again : tie.Need-loop-preserved invariant-loop decreases-loop
+loop-again : tie.Need-loop-q-preserved invariant-loop decreases-loop
 loop-again c =
-    let a = c.before.before.before.before.before.before.args in
-    let l = c.before.before.before.before.loop in
+    let a = c.args in
+    let l = c.loop-q in
     (omega arith, l.invariant.1 ∙ ap is_some (first_next (used a.g a.part.now) a.g.pages l.q (omega arith) (no-entry (count_of (buffer_of a.g a.part.now l.q)) (omega arith))))
 
-returns-2 : tie.Need-returns-2 invariant-loop decreases-loop
-returns-2 c = sym (c.before.before.loop.invariant.1 ∙ ap is_some (first-end _ _ _ (omega arith)))
+returns-2 : tie.Need-returns invariant-loop decreases-loop
+returns-2 c = sym (c.loop-q.invariant.1 ∙ ap is_some (first-end _ _ _ (omega arith)))
 
-pub is-in-use-spec : {M : Type 1} → statement M
-is-in-use-spec = tie.close (tie.spec invariant-loop decreases-loop loop-holds (λ c κs. search rules) returns (λ c. omega arith) (λ c. omega arith) loop-again returns-2)
+pub is_in_use_spec : {M : Type 1} → statement M
+is_in_use_spec = tie.close (tie.spec invariant-loop decreases-loop loop-holds (λ c κs. search rules) returns (λ c. omega arith) (λ c. omega arith) loop-again returns-2)

@@ -6,7 +6,7 @@ use Rattle.buffer.proofs.is_page_overfull.Tie as tie
 
 returns : tie.Need-returns
 unfolding page_overfull
-returns c = rw (c.count.ensures, c.before.page-capacity.ensures)
+returns c = rw (c.count.ensures, c.page_capacity.ensures)
 
-pub is-page-overfull-spec : {M : Type 1} → statement M
-is-page-overfull-spec = tie.close (tie.spec (λ c κs. search rules) (λ c κs. search rules) returns)
+pub is_page_overfull_spec : {M : Type 1} → statement M
+is_page_overfull_spec = tie.close (tie.spec (λ c κs. search rules) (λ c κs. search rules) returns)

@@ -6,10 +6,10 @@ use Rattle.partition.proofs.Inside.{LentPage, lends-page}
 use Rattle.buffer.proofs.search.Statement.{statement}
 use Rattle.buffer.proofs.search.Tie as tie
 
-lent : (c : tie.After-struct-known) → let a = c.before.before.before.args in LentPage a.g a.q a.part.now c.before.buffer-at.result
-lent c = let s = c.before.before.before in lends-page _ _ s.requires.0 _ _ s.requires.1.0 c.before.buffer-at.ensures
+lent : (c : tie.After-struct_known-1) → let a = c.args in LentPage a.g a.q a.part.now c.buffer_at-a.result
+lent c = let s = c.before.before.before in lends-page _ _ s.requires.0 _ _ s.requires.1.0 c.buffer_at-a.ensures
 
-search-with-requires : tie.Need-search-with-requires
+search-with-requires : tie.Need-search_with-requires
 search-with-requires c κs =
     let s = c.before.before.before.before in
     let z = sizes _ s.requires.0.fine in
@@ -17,7 +17,7 @@ search-with-requires c κs =
     rw (l.own, l.long) (omega arith, omega arith)
 
 returns : tie.Need-returns
-returns c = rw (← (lent c.before.before).own) c.search-with.ensures
+returns c = rw (← (lent c.before.before).own) c.search_with.ensures
 
-pub search-spec : {M : Type 1} → statement M
-search-spec = tie.close (tie.spec (λ c κs. search rules) (λ c. search rules) (λ c. omega (arith, (lent c).inside)) (λ c. search rules) (λ c. search rules) (λ c. omega (arith, (lent c).inside)) search-with-requires returns)
+pub search_spec : {M : Type 1} → statement M
+search_spec = tie.close (tie.spec (λ c κs. search rules) (λ c. search rules) (λ c. omega (arith, (lent c).inside)) (λ c. search rules) (λ c. search rules) (λ c. omega (arith, (lent c).inside)) search-with-requires returns)

@@ -12,8 +12,8 @@ use Rattle.partition.proofs.Inside.{LentPage, lends-page}
 use Rattle.buffer.proofs.store.Statement.{statement}
 use Rattle.buffer.proofs.store.Tie as tie
 
-lent : (c : tie.After-struct-known) → let a = c.before.before.before.args in LentPage a.g (page_of a.g a.key) a.part.now c.before.page-at.result
-lent c = let s = c.before.before.before in lends-page _ _ s.requires.0 _ _ (page-of-lt _ s.requires.0.fine _) c.before.page-at.ensures
+lent : (c : tie.After-struct_known-1) → let a = c.args in LentPage a.g (page_of a.g a.key) a.part.now c.page_at-a.result
+lent c = let s = c.before.before.before in lends-page _ _ s.requires.0 _ _ (page-of-lt _ s.requires.0.fine _) c.page_at-a.ensures
 
 store-requires : tie.Need-store-requires
 store-requires c κs =
@@ -26,10 +26,10 @@ store-requires c κs =
 returns : tie.Need-returns
 unfolding buffered appends
 returns c =
-    let a = c.before.before.before.before.before.before.before.args in
+    let a = c.args in
     let l = lent c.before.before.before.before in
-    let r = c.before.before.store.ensures in
+    let r = c.store.ensures in
     (l.back (stored a.key a.value) (length-stored a.key a.value) _ r.0, r.1 ∙ ap (added a.key) l.own)
 
 pub store_spec : {M : Type 1} → statement M
-store_spec = tie.close (tie.spec (λ c κs. c.before.requires.0.fine) (λ c. search rules) (λ c. omega (arith, (lent c).inside)) (λ c. search rules) (λ c. search rules) (λ c. omega (arith, (lent c).inside)) store-requires (λ c. search rules) returns)
+store_spec = tie.close (tie.spec (λ c κs. c.requires.0.fine) (λ c. search rules) (λ c. omega (arith, (lent c).inside)) (λ c. search rules) (λ c. search rules) (λ c. omega (arith, (lent c).inside)) store-requires (λ c. search rules) returns)

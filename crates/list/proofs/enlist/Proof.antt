@@ -8,7 +8,7 @@ use Rattle.list.proofs.enlist.Statement.{statement}
 use Rattle.list.proofs.enlist.Tie as tie
 
 returns : tie.Need-returns
-returns c = let a = c.before.before.before.before.before.before.args in lent 16 _ _ _ _ (list_inside _ _ c.before.before.before.before.before.before.requires.0) (length-enlisted a.n a.key a.stamp) c.before.before.enlist.ensures
+returns c = let a = c.args in lent 16 _ _ _ _ (list_inside _ _ c.requires.0) (length-enlisted a.n a.key a.stamp) c.enlist.ensures
 
-pub enlist-spec : {M : Type 1} → statement M
-enlist-spec = tie.close (tie.spec (λ c. search rules) (λ c. search rules) (λ c. search rules) (λ c. search rules) (λ c. search rules) (λ c. omega (arith, list_inside _ _ c.before.before.requires.0)) (λ c κs. search rules) (λ c. search rules) returns)
+pub enlist_spec : {M : Type 1} → statement M
+enlist_spec = tie.close (tie.spec (λ c. search rules) (λ c. search rules) (λ c. search rules) (λ c. search rules) (λ c. search rules) (λ c. omega (arith, list_inside _ _ c.requires.0)) (λ c κs. search rules) (λ c. search rules) returns)

@@ -12,16 +12,16 @@ use Rattle.model.proofs.Parts.{lent}
 use Rattle.model.proofs.Lengths.{length-expired}
 use Rattle.partition.proofs.Inside.{list_inside}
 
-part-expire-end : tie.Need-slice-bounds-expire-end
-part-expire-end c = omega (arith, list_inside _ _ c.before.before.requires.0)
+part-expire-end : tie.Need-slice_bounds-expire-end
+part-expire-end c = omega (arith, list_inside _ _ c.requires.0)
 
 returns : tie.Need-returns
 unfolding delisted
 returns c =
     let s = c.before.before.before.before.before.before in
     let a = s.args in
-    let r = c.before.before.expire.ensures in
+    let r = c.expire.ensures in
     (lent 16 (16 * a.g.list) (expired a.back a.flushes a.listed) a.part.now _ (list_inside _ _ s.requires.0) (length-expired a.back a.flushes a.listed) r.0, r.1 ∙ rw add-sub_cancel_left)
 
-pub expire-spec : {M : Type 1} → statement M
-expire-spec = tie.close (tie.spec (λ c. search rules) (λ c. search rules) (λ c. search rules) (λ c. search rules) (λ c. search rules) part-expire-end (λ c κs. search rules) (λ c. search rules) returns)
+pub expire_spec : {M : Type 1} → statement M
+expire_spec = tie.close (tie.spec (λ c. search rules) (λ c. search rules) (λ c. search rules) (λ c. search rules) (λ c. search rules) part-expire-end (λ c κs. search rules) (λ c. search rules) returns)

@@ -7,11 +7,11 @@ use borrow.Author.Rules.{rules}
 use Rattle.list.proofs.strike.Statement.{statement}
 use Rattle.list.proofs.strike.Tie as tie
 
-part-strike-end : tie.Need-slice-bounds-strike-end
-part-strike-end c = omega (arith, list_inside _ _ c.before.before.requires.0)
+part-strike-end : tie.Need-slice_bounds-strike-end
+part-strike-end c = omega (arith, list_inside _ _ c.requires.0)
 
 returns : tie.Need-returns
-returns c = let a = c.before.before.before.before.before.before.args in lent 16 _ _ _ _ (list_inside _ _ c.before.before.before.before.before.before.requires.0) (length-struck a.i a.n) c.before.before.strike.ensures
+returns c = let a = c.args in lent 16 _ _ _ _ (list_inside _ _ c.requires.0) (length-struck a.i a.n) c.strike.ensures
 
-pub strike-spec : {M : Type 1} → statement M
-strike-spec = tie.close (tie.spec (λ c. search rules) (λ c. search rules) (λ c. search rules) (λ c. search rules) (λ c. search rules) part-strike-end (λ c κs. search rules) (λ c. search rules) returns)
+pub strike_spec : {M : Type 1} → statement M
+strike_spec = tie.close (tie.spec (λ c. search rules) (λ c. search rules) (λ c. search rules) (λ c. search rules) (λ c. search rules) part-strike-end (λ c κs. search rules) (λ c. search rules) returns)

@@ -13,33 +13,33 @@ use Rattle.opening.proofs.check.Statement.{statement}
 use Rattle.opening.proofs.check.Tie as tie
 
 -- the test of the numbers, as passed
-passed : (c : tie.Else2) → allowed c.before.before.geometry-of.result ≡ true
-passed c = sym c.before.is-allowed.ensures ∙ not-false _ c.if2.false
+passed : (c : tie.Else-not-is_allowed) → allowed c.geometry_of-g.result ≡ true
+passed c = sym c.is_allowed.ensures ∙ c.if-not-is_allowed.false
 
-fine : (c : tie.Else2) → allowed (geometry_of c.before.before.before.before.before.before.args.memory.now) ≡ true
-fine c = sym (ap allowed c.before.before.geometry-of.ensures) ∙ passed c
+fine : (c : tie.Else-not-is_allowed) → allowed (geometry_of c.args.memory.now) ≡ true
+fine c = sym (ap allowed c.geometry_of-g.ensures) ∙ passed c
 
-returns : tie.Need-returns
+returns : tie.Need-returns-then-memory-lt32
 returns c = sym (number-refused _ _ 2 (opening-2 _ none (omega arith)))
 
-returns-2 : tie.Need-returns-2
-returns-2 c = sym (number-refused _ _ 11 (opening-11 _ none (omega arith) (sym (ap allowed c.before.before.geometry-of.ensures) ∙ sym c.before.is-allowed.ensures ∙ not-true _ c.if2.true)))
+returns-2 : tie.Need-returns-then-not-is_allowed
+returns-2 c = sym (number-refused _ _ 11 (opening-11 _ none (omega arith) (sym (ap allowed c.geometry_of-g.ensures) ∙ sym c.is_allowed.ensures ∙ c.if-not-is_allowed.true)))
 
-returns-3 : tie.Need-returns-3
+returns-3 : tie.Need-returns-then-u32_at-ne0
 returns-3 c = sym (number-refused _ _ 11 (opening-11-eighth _ none (omega arith) (fine c.before.before) (omega arith)))
 
-returns-4 : tie.Need-returns-4
-returns-4 c = sym (number-refused _ _ 2 (opening-2-need _ none (omega arith) (fine c.before.before.before.before) (omega arith) (omega (arith, ap memory_need c.before.before.before.before.before.before.geometry-of.ensures))))
+returns-4 : tie.Need-returns-then-memory-memory_need
+returns-4 c = sym (number-refused _ _ 2 (opening-2-need _ none (omega arith) (fine c.before.before.before.before) (omega arith) (omega (arith, ap memory_need c.geometry_of-g.ensures))))
 
-returns-5 : tie.Need-returns-5
+returns-5 : tie.Need-returns-then-flash-flash_need
 returns-5 c =
-    let own = c.before.before.before.before.before.before.before.before.geometry-of.ensures in
+    let own = c.geometry_of-g.ensures in
     sym (number-refused _ _ 3 (opening-3 _ none (omega arith) (fine c.before.before.before.before.before.before) (omega arith) (omega (arith, ap memory_need own)) (omega (arith, ap flash_need own))))
 
-returns-6 : tie.Need-returns-6
+returns-6 : tie.Need-returns
 returns-6 c =
-    let own = c.before.before.before.before.before.before.before.before.geometry-of.ensures in
+    let own = c.geometry_of-g.ensures in
     sym (number_passed _ _ (opens _ (record { long = omega arith; fine = fine c.before.before.before.before.before.before; eighth_zero = omega arith; memory_fits = omega (arith, ap memory_need own); flash_fits = omega (arith, ap flash_need own) }) none))
 
-pub check-spec : {M : Type 1} → statement M
-check-spec = tie.close (tie.spec returns (λ c κs. search rules) (λ c κs. search rules) returns-2 (λ c κs. search rules) returns-3 (λ c κs. passed c.before.before) returns-4 (λ c κs. passed c.before.before.before.before) returns-5 returns-6)
+pub check_spec : {M : Type 1} → statement M
+check_spec = tie.close (tie.spec returns (λ c κs. search rules) (λ c κs. search rules) returns-2 (λ c κs. search rules) returns-3 (λ c κs. passed c.before.before) returns-4 (λ c κs. passed c.before.before.before.before) returns-5 returns-6)

@@ -8,5 +8,5 @@ returns : tie.Need-returns
 unfolding geometry_of
 returns c = cc
 
-pub geometry-of-spec : {M : Type 1} → statement M
-geometry-of-spec = tie.close (tie.spec (λ c κs. search rules) (λ c κs. search rules) (λ c κs. search rules) (λ c κs. search rules) (λ c κs. search rules) (λ c κs. search rules) (λ c κs. search rules) returns)
+pub geometry_of_spec : {M : Type 1} → statement M
+geometry_of_spec = tie.close (tie.spec (λ c κs. search rules) (λ c κs. search rules) (λ c κs. search rules) (λ c κs. search rules) (λ c κs. search rules) (λ c κs. search rules) (λ c κs. search rules) returns)

@@ -12,51 +12,51 @@ use Rattle.outgoing.proofs.read_outgoing.Statement.{statement}
 use Rattle.outgoing.proofs.read_outgoing.Tie as tie
 
 -- ---- the steps that the facts go back to
-abbrev slotted : tie.Else1 → tie.After-slot-of
+abbrev slotted : tie.Else-head-g → tie.After-slot_of-j
 slotted c = c.before.before.before
 
-abbrev read_at : tie.After-slot-of → tie.After-read
+abbrev read_at : tie.After-slot_of-j → tie.After-read-head
 read_at c = c.before.before
 
-abbrev start : tie.After-read → tie.Start
+abbrev start : tie.After-read-head → tie.Start
 start c = c.before.before.before
 
 -- ---- K are live, and as many flushes were done
-reached : (c : tie.Else1) → let a = (start (read_at (slotted c))).args in a.g.kept ≤ live_of a.part.now
-reached c = omega (arith, live-is (read_at (slotted c)).read.ensures)
+reached : (c : tie.Else-head-g) → let a = (start (read_at (slotted c))).args in a.g.kept ≤ live_of a.part.now
+reached c = omega (arith, live-is (read_at (slotted c)).read-head.ensures)
 
-fits : (c : tie.After-read) → HeadFits (start c).args.g (head_of (start c).args.part.now)
+fits : (c : tie.After-read-head) → HeadFits (start c).args.g (head_of (start c).args.part.now)
 fits c = head-fits _ _ (start c).requires.1.0
 
-full : (c : tie.Else1) → let r = read_at (slotted c) in r.read.result.live ≡ (start r).args.g.kept
-full c = let r = read_at (slotted c) in omega (arith, live-is r.read.ensures, (fits r).kept)
+full : (c : tie.Else-head-g) → let r = read_at (slotted c) in r.read-head.result.live ≡ (start r).args.g.kept
+full c = let r = read_at (slotted c) in omega (arith, live-is r.read-head.ensures, (fits r).kept)
 
-enough : (c : tie.Else1) → let r = read_at (slotted c) in r.read.result.live ≤ r.read.result.flushes
-enough c = let r = read_at (slotted c) in omega (arith, (fits r).flushed, live-is r.read.ensures, flushes-is r.read.ensures)
+enough : (c : tie.Else-head-g) → let r = read_at (slotted c) in r.read-head.result.live ≤ r.read-head.result.flushes
+enough c = let r = read_at (slotted c) in omega (arith, (fits r).flushed, live-is r.read-head.ensures, flushes-is r.read-head.ensures)
 
 -- ---- the new batch takes the slot of the oldest
-add-slot-of : tie.Need-overflow-add-slot-of
-add-slot-of c = let r = c.before in omega (arith, flushes-is r.read.ensures, (start r).requires.1.1.1.1)
+add-slot-of : tie.Need-overflow_add-head
+add-slot-of c = let r = c.before in omega (arith, flushes-is r.read-head.ensures, (start r).requires.1.1.1.1)
 
-read-heads-requires : tie.Need-read-heads-requires
+read-heads-requires : tie.Need-read_heads-requires
 read-heads-requires c κs =
     let e = c.before in
     let j = slotted e in
     let s = start (read_at j) in
-    (s.pre.0.fine, (s.pre.1.1.0, (s.pre.1.1.1.0, j.slot_of.ensures ∙ slot-again s.args.g _ _ (full e) (enough e))))
+    (s.requires.0.fine, (s.requires.1.1.0, (s.requires.1.1.1.0, j.slot_of-j.ensures ∙ slot-again s.args.g _ _ (full e) (enough e))))
 
 -- ---- the answers
-returns : tie.Need-returns
-returns c = none_out _ _ _ _ (omega (arith, live-is c.before.before.before.before.before.read.ensures))
+returns : tie.Need-returns-then-head-g
+returns c = none_out _ _ _ _ (omega (arith, live-is c.read-head.ensures))
 
-returns-2 : tie.Need-returns-2
+returns-2 : tie.Need-returns
 returns-2 c =
     let e = c.before.before in
-    let r = (read_at (slotted e)).read.ensures in
-    oldest-out _ _ _ _ (reached e) _ (omega (arith, flushes-is r, live-is r)) _ c.read-heads.ensures
+    let r = (read_at (slotted e)).read-head.ensures in
+    oldest-out _ _ _ _ (reached e) _ (omega (arith, flushes-is r, live-is r)) _ c.read_heads.ensures
 
-pub read-outgoing-spec : {M : Type 1} → statement M
-read-outgoing-spec =
-    tie.close (tie.spec (λ c κs. omega (arith, list_inside _ _ c.before.before.requires.0)) add-slot-of (λ c κs. ((start c.before).requires.0.fine, omega arith))
+pub read_outgoing_spec : {M : Type 1} → statement M
+read_outgoing_spec =
+    tie.close (tie.spec (λ c κs. omega (arith, list_inside _ _ c.requires.0)) add-slot-of (λ c κs. ((start c.before).requires.0.fine, omega arith))
     returns (λ c. omega (arith, enough c.before))
     (λ c. let z = sizes _ (start (read_at (slotted c.before))).requires.0.fine in omega (arith, enough c.before, full c.before, z.kept-min)) read-heads-requires returns-2)

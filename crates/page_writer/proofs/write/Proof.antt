@@ -18,28 +18,28 @@ inside : (g : Geometry) (t j q : ℕ) {at long : ℕ} → at ≡ slot_page_at g 
 inside g t j q e lt lj lq fits = omega (arith, e, slot-page-fits g t j q lt lj lq)
 
 -- ---- the steps that the facts go back to
-abbrev start : tie.After-part-of → tie.Start
+abbrev start : tie.After-part_of-part → tie.Start
 start c = c.before.before.before
 
-abbrev slotted : tie.After-buffer-at → tie.After-slot-of
+abbrev slotted : tie.After-buffer_at-from → tie.After-slot_of-j
 slotted c = c.before.before
 
-whole : (c : tie.After-part-of) → Whole (start c).args.g c.part_of.result.now
-whole c = let w = (start c).requires in record { fine = w.fine; long = ap length c.part_of.ensures ∙ (partition-whole _ _ w.fine w.memory_fits _ (omega (arith, w.partition_below))).long }
+whole : (c : tie.After-part_of-part) → Whole (start c).args.g c.part_of-part.result.now
+whole c = let w = (start c).requires in record { fine = w.fine; long = ap length c.part_of-part.ensures ∙ (partition-whole _ _ w.fine w.memory_fits _ (omega (arith, w.partition_below))).long }
 
 -- ---- what the calls ask
-slot-page-at-requires : tie.Need-slot-page-at-requires
-slot-page-at-requires c κs = let w = (start c.before).requires in (w.fine, (omega (arith, w.partition_below), (omega (arith, slot-is-lt _ w.fine _ c.slot_of.ensures), w.page_below)))
+slot-page-at-requires : tie.Need-slot_page_at-at-requires
+slot-page-at-requires c κs = let w = (start c.before).requires in (w.fine, (omega (arith, w.partition_below), (omega (arith, slot-is-lt _ w.fine _ c.slot_of-j.ensures), w.page_below)))
 
-copy-numbered-requires : tie.Need-copy-numbered-requires
+copy-numbered-requires : tie.Need-copy_numbered-requires
 copy-numbered-requires c κs =
     let b = c.before.before in
     let j = slotted b in
     let p = j.before in
-    let w = (start p).pre in
+    let w = (start p).requires in
     let z = sizes _ w.fine in (
-      omega (arith, inside _ _ _ _ b.before.slot-page-at.ensures (omega (arith, w.partition_below)) (omega (arith, slot-is-lt _ w.fine _ j.slot_of.ensures)) w.page_below w.flash_fits),
-      (omega (arith, b.buffer-at.ensures, page-inside _ _ (whole p) _ w.page_below), (omega (arith, z.page-min), omega (arith, z.page-blocks))),
+      omega (arith, inside _ _ _ _ b.slot_page_at-at.ensures (omega (arith, w.partition_below)) (omega (arith, slot-is-lt _ w.fine _ j.slot_of-j.ensures)) w.page_below w.flash_fits),
+      (omega (arith, b.buffer_at-from.ensures, page-inside _ _ (whole p) _ w.page_below), (omega (arith, z.page-min), omega (arith, z.page-blocks))),
     )
 
 returns : tie.Need-returns
@@ -48,7 +48,7 @@ returns c =
     let b = d.before.before.before in
     let j = slotted b in
     let p = j.before in
-    page-written _ _ _ _ p.part_of.ensures (start p).pre.number_next j.slot_of.ensures b.before.slot-page-at.ensures b.buffer-at.ensures d.copy-numbered.ensures
+    page-written _ _ _ _ p.part_of-part.ensures (start p).requires.number_next j.slot_of-j.ensures b.slot_page_at-at.ensures b.buffer_at-from.ensures d.copy_numbered.ensures
 
 pub write_spec : {M : Type 1} → statement M
 write_spec = tie.close (tie.spec (λ c κs. search rules) (λ c κs. ((start c).requires.fine, omega (arith, (start c).requires.number_next))) slot-page-at-requires (λ c κs. search rules) (λ c. search rules) copy-numbered-requires (λ c. search rules) returns)

@@ -28,7 +28,7 @@ unlist-requires : tie.Need-unlist-requires
 unlist-requires c κs =
     let s = c.before.before.before.before.before.before in
     let l = laid-buffered _ s.requires.0.fine s.args.part.now s.requires.0.long s.args.key s.args.value in
-    rw c.before.before.before.store.ensures.0 (record { fine = s.requires.0.fine; long = l.long }, ap (head_overfull s.args.g) l.head ∙ (key_fits _ _ _ s.requires.1.0.fits).0)
+    rw c.store-more.ensures.0 (record { fine = s.requires.0.fine; long = l.long }, ap (head_overfull s.args.g) l.head ∙ (key_fits _ _ _ s.requires.1.0.fits).0)
 
 -- ---- the total
 module _ (g : Geometry) (k v : ℕ) (p p' p'' : List ℕ) (e' : p' ≡ buffered g k v p) (e'' : p'' ≡ unlisted g k p') where
@@ -46,34 +46,34 @@ one_more : (g : Geometry) (k : ℕ) (p : List ℕ) → appends g k p ≤ 1
 unfolding appends added
 one_more g k p = elim (is_some (searched k (buffer_of g p (page_of g k)))) as (λ b. cond b 0 1 ≤ 1) [ true ↦ omega arith | false ↦ omega arith ]
 
-abbrev store_at : tie.After-unlist → tie.After-store
+abbrev store_at : tie.After-unlist → tie.After-store-more
 store_at c = c.before.before.before.before
 
 abbrev start : tie.After-unlist → tie.Start
 start c = (store_at c).before.before.before
 
-change-total-requires : tie.Need-change-total-requires
+change-total-requires : tie.Need-change_total-requires
 change-total-requires c κs =
     let u = c.before.before.before in
     let b = store_at u in
     let s = start u in
-    let kept = total_kept _ _ _ _ _ _ b.store.ensures.0 u.unlist.ensures s.pre.0 (λ i. omega (arith, b.before.before.slice-known.given i)) in
+    let kept = total_kept _ _ _ _ _ _ b.store-more.ensures.0 u.unlist.ensures s.requires.0 (λ i. omega (arith, b.slice_known-1.given i)) in
     omega (
       arith,
-      list_inside _ _ s.pre.0,
+      list_inside _ _ s.requires.0,
       kept,
-      b.store.ensures.1,
-      s.pre.1.1,
+      b.store-more.ensures.1,
+      s.requires.1.1,
       one_more s.args.g s.args.key s.args.part.now,
-      most-max _ s.pre.0.fine,
-      (head-fits _ _ (key_fits _ _ _ s.pre.1.0.fits).0).total,
+      most-max _ s.requires.0.fine,
+      (head-fits _ _ (key_fits _ _ _ s.requires.1.0.fits).0).total,
     )
 
 returns : tie.Need-returns
 returns c =
     let u = c.before.before.before.before.before.before in
-    let b = (store_at u).store.ensures in
-    total-changed _ _ _ _ _ _ b.0 u.unlist.ensures _ _ _ b.1 c.before.before.change-total.ensures
+    let b = (store_at u).store-more.ensures in
+    total-changed _ _ _ _ _ _ b.0 u.unlist.ensures _ _ _ b.1 c.change_total.ensures
 
-pub store-unlisted-spec : {M : Type 1} → statement M
-store-unlisted-spec = tie.close (tie.spec (λ c κs. search rules) unlist-requires change-total-requires (λ c. search rules) returns)
+pub store_unlisted_spec : {M : Type 1} → statement M
+store_unlisted_spec = tie.close (tie.spec (λ c κs. search rules) unlist-requires change-total-requires (λ c. search rules) returns)

@@ -15,38 +15,38 @@ use Rattle.storing.proofs.unlist.Statement.{statement}
 use Rattle.storing.proofs.unlist.Tie as tie
 
 -- where the head was read, from where an entry is found
-abbrev at_read : tie.After-known-told → tie.After-read
-at_read c = c.before.before.before.before.before
+abbrev at_read : tie.In-At → tie.After-read-head
+at_read c = c.before.before.before.before
 
-abbrev start : tie.After-known-told → tie.Start
+abbrev start : tie.In-At → tie.Start
 start c = (at_read c).before.before.before
 
 -- the place that was found
-at : (c : tie.After-known-told) → let a = (start c).args in listed_at (listed_of a.part.now) a.key (list_of a.g a.part.now) ≡ some c.before.i.given.0.0
-at c = told_at c.before.before.before.find.ensures c.before.i.given.1
+at : (c : tie.In-At) → let a = (start c).args in listed_at (listed_of a.part.now) a.key (list_of a.g a.part.now) ≡ some c.in-At.i
+at c = told_at c.find.ensures c.in-At.is
 
 strike-requires : tie.Need-strike-requires
 strike-requires c κs =
     let k = c.before.before in
     let w = first-at _ _ _ _ (at k) in
-    let n = listed-is (at_read k).read.ensures in
+    let n = listed-is (at_read k).read-head.ensures in
     ((start k).requires.0, (omega arith, omega (arith, (head-fits _ _ (start k).requires.1).list)))
 
 unlisted-requires : tie.Need-unlisted-requires
-unlisted-requires c κs = let k = c.before.before.before.before.before.before in let w = first-at _ _ _ _ (at k) in omega (arith, listed-is (at_read k).read.ensures)
+unlisted-requires c κs = let k = c.before.before.before.before.before.before in let w = first-at _ _ _ _ (at k) in omega (arith, listed-is (at_read k).read-head.ensures)
 
-put-back-requires : tie.Need-put-back-requires
+put-back-requires : tie.Need-put_back-requires
 put-back-requires c κs = let k = c.before.before.before.before.before.before.before in omega (arith, list_inside _ _ (start k).requires.0)
 
-returns : tie.Need-returns
+returns : tie.Need-returns-in-At
 returns c =
     let s = c.before.before.before.before.before.before.before in
     let k = s.before.before.before in
-    let r = (at_read k).read.ensures in
-    was-listed _ _ _ _ _ _ _ _ (at k) (listed-is r) s.strike.ensures (c.before.before.before.unlisted.ensures ∙ ap (unlisted_head 1) r) c.before.before.put_back.ensures
+    let r = (at_read k).read-head.ensures in
+    was-listed _ _ _ _ _ _ _ _ (at k) (listed-is r) s.strike.ensures (c.unlisted.ensures ∙ ap (unlisted_head 1) r) c.put_back.ensures
 
-returns-2 : tie.Need-returns-2
-returns-2 c = sym (not_listed _ _ _ (told_at c.before.before.find.ensures c.enum_told.given.1))
+returns-2 : tie.Need-returns-in-Nothing
+returns-2 c = sym (not_listed _ _ _ (told_at c.find.ensures c.in-Nothing.is))
 
-pub unlist-spec : {M : Type 1} → statement M
-unlist-spec = tie.close (tie.spec (λ c κs. omega (arith, list_inside _ _ c.before.before.requires.0)) (λ c κs. search rules) (λ c. search rules) (λ c. search rules) strike-requires unlisted-requires put-back-requires (λ c. search rules) (λ c. search rules) returns (λ c. search rules) returns-2)
+pub unlist_spec : {M : Type 1} → statement M
+unlist_spec = tie.close (tie.spec (λ c κs. omega (arith, list_inside _ _ c.requires.0)) (λ c κs. search rules) (λ c. search rules) (λ c. search rules) strike-requires unlisted-requires put-back-requires (λ c. search rules) (λ c. search rules) returns (λ c. search rules) returns-2)
