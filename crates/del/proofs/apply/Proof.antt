@@ -36,23 +36,23 @@ module _ (g : Geometry) (k : ℕ) (p : List ℕ) (w : Whole g p) where
 
 list-requires : tie.Need-list-requires
 list-requires c κs =
-    let d = c.before.before.before.before.before.before in
+    let d = c.before.before.before.before in
     let s = d.before.before.before in
     let w = s.requires.0 in
-    rw d.drop-key.ensures.0 (record { fine = w.fine; long = length-unbuffered _ _ s.args.part.now ∙ w.long }, rw (listed_kept _ _ _ w) (s.requires.1.free _ (ap stamp c.before.before.youngest.given.1)))
+    rw d.drop_key-less.ensures.0 (record { fine = w.fine; long = length-unbuffered _ _ s.args.part.now ∙ w.long }, rw (listed_kept _ _ _ w) (s.requires.1.free _ (ap stamp c.in-Batch.is)))
 
 -- where the arms meet, the key is listed as the batch says
-joined : (c : tie.At-match-branch) → let a = c.before.before.before.before.before.before.args in c.match.part ≡ listed_with (stamp a.youngest) a.g a.key (unbuffered a.g a.key a.part.now)
+joined : (c : tie.Joined-youngest) → let a = c.args in c.in-Batch.in-Batch-own.part ≡ listed_with (stamp a.youngest) a.g a.key (unbuffered a.g a.key a.part.now)
 joined c =
-    let d = c.before.before.before.drop-key.ensures.0 in
-    ⊎_elim (λ w. rw (w.7, w.4.ensures, d, w.1.given.1)) (λ w. rw (w.2, d, w.1.given.1)) c.match.branch
+    let d = c.drop_key-less.ensures.0 in
+    ⊎_elim (λ w. rw (w.7, w.4.ensures, d, w.1.given.1)) (λ w. rw (w.2, d, w.1.given.1)) c.in-Batch.in-Batch-own.branch-raw
 
-kept : (c : tie.At-match-branch) → let p = c.before.before.before.before.before.before.args.part.now in (length c.match.part ≡ length p) × (total_of c.match.part ≡ total_of p)
+kept : (c : tie.Joined-youngest) → let p = c.args.part.now in (length c.in-Batch.in-Batch-own.part ≡ length p) × (total_of c.in-Batch.in-Batch-own.part ≡ total_of p)
 kept c =
     let b = c.before.before.before.before.before in
-    head-kept _ _ _ b.before.requires.0 _ _ b.before.requires.1 (λ i. omega (arith, b.slice-known.given i)) (joined c)
+    head-kept _ _ _ b.requires.0 _ _ b.requires.1 (λ i. omega (arith, b.slice_known-1.given i)) (joined c)
 
-change-total-requires : tie.Need-change-total-requires
+change-total-requires : tie.Need-change_total-requires
 change-total-requires c κs =
     let d = c.before.before.before.before in
     let s = d.before.before.before in
@@ -60,15 +60,15 @@ change-total-requires c κs =
       omega (arith, k.0, list_inside _ _ s.requires.0),
       (
         omega (arith, k.1, most-max _ s.requires.0.fine, (head-fits _ _ (key_fits _ _ _ s.requires.1.fits).0).total),
-        omega (arith, k.1, d.drop-key.ensures.1, s.requires.1.counted),
+        omega (arith, k.1, d.drop_key-less.ensures.1, s.requires.1.counted),
       ),
     )
 
-same_length : tie.Need-same-length
-same_length c = c.before.before.change-total.auto.0 ∙ (kept c.before.before.before.before).0
+same_length : tie.Need-shape_of-part
+same_length c = c.change_total.auto.0 ∙ (kept c.before.before.before.before).0
 
 returns : tie.Need-returns
-returns c = let m = c.before.before.before.before in c.before.before.change-total.ensures ∙ ap₂ (totalled 0) m.before.before.before.drop-key.ensures.1 (joined m)
+returns c = let m = c.before.before.before.before in c.change_total.ensures ∙ ap₂ (totalled 0) m.drop_key-less.ensures.1 (joined m)
 
-pub apply-spec : {M : Type 1} → statement M
-apply-spec = tie.close (tie.spec (λ c κs. (c.before.before.requires.0, c.before.before.requires.1.fits)) (λ c. search rules) list-requires (λ c. search rules) change-total-requires same_length returns)
+pub apply_spec : {M : Type 1} → statement M
+apply_spec = tie.close (tie.spec (λ c κs. (c.requires.0, c.requires.1.fits)) (λ c. search rules) list-requires (λ c. search rules) change-total-requires same_length returns)

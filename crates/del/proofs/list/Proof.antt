@@ -10,19 +10,19 @@ use Rattle.del.proofs.list.Statement.{statement}
 use Rattle.del.proofs.list.Tie as tie
 
 enlist-requires : tie.Need-enlist-requires
-enlist-requires c κs = (c.before.before.before.before.before.requires.0, rw (listed-is c.before.before.read.ensures) c.before.before.before.before.before.requires.1)
+enlist-requires c κs = (c.requires.0, rw (listed-is c.read-head.ensures) c.requires.1)
 
 listed-requires : tie.Need-listed-requires
 listed-requires c κs =
     let r = c.before.before.before.before.before.before in
-    let z = sizes _ r.before.before.before.requires.0.fine in
-    omega (arith, listed-is r.read.ensures, r.before.before.before.requires.1)
+    let z = sizes _ r.requires.0.fine in
+    omega (arith, listed-is r.read-head.ensures, r.requires.1)
 
-put-back-requires : tie.Need-put-back-requires
-put-back-requires c κs = let r = c.before.before.before.before.before.before.before in omega (arith, list_inside _ _ r.before.before.before.requires.0)
+put-back-requires : tie.Need-put_back-requires
+put-back-requires c κs = let r = c.before.before.before.before.before.before.before in omega (arith, list_inside _ _ r.requires.0)
 
 returns : tie.Need-returns
-returns c = let e = c.before.before.before.before.before.before.before in let read = e.before.before.before.read.ensures in rw (c.before.before.put_back.ensures, c.before.before.before.listed.ensures ∙ ap listed_head read, e.enlist.ensures, listed-is read)
+returns c = let e = c.before.before.before.before.before.before.before in let read = e.read-head.ensures in rw (c.put_back.ensures, c.listed.ensures ∙ ap listed_head read, e.enlist.ensures, listed-is read)
 
-pub list-spec : {M : Type 1} → statement M
-list-spec = tie.close (tie.spec (λ c κs. omega (arith, list_inside _ _ c.before.before.requires.0)) (λ c. search rules) enlist-requires listed-requires put-back-requires (λ c. search rules) returns)
+pub list_spec : {M : Type 1} → statement M
+list_spec = tie.close (tie.spec (λ c κs. omega (arith, list_inside _ _ c.requires.0)) (λ c. search rules) enlist-requires listed-requires put-back-requires (λ c. search rules) returns)

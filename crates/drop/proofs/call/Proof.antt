@@ -16,54 +16,54 @@ use Rattle.drop.proofs.call.Statement.{statement}
 use Rattle.drop.proofs.call.Tie as tie
 
 -- ---- the steps that the facts go back to
-abbrev start : tie.After-partition-count → tie.Start
+abbrev start : tie.After-partition_count → tie.Start
 start c = c.before.before.before
 
-abbrev there : tie.After-decide → tie.Else1
-there c = c.before.before.before
+abbrev there : tie.After-decide → tie.Else-partition_count-t
+there c = c.before.before
 
-abbrev counted : tie.After-decide → tie.After-partition-count
+abbrev counted : tie.After-decide → tie.After-partition_count
 counted c = (there c).before
 
 -- ---- no such partition
-returns : tie.Need-returns
+returns : tie.Need-returns-then-partition_count-t
 returns c =
     let s = start c.before in
-    refusing _ _ _ _ (checks-drop _ _ s.pre.own s.pre.opens _ ∙ drop-4 _ _ _ _ (omega (arith, c.if1.true, c.before.partition-count.ensures)))
+    refusing _ _ _ _ (checks-drop _ _ s.requires.own s.requires.opens _ ∙ drop-4 _ _ _ _ (omega (arith, c.if-partition_count-t.true, c.partition_count.ensures)))
 
-below : (c : tie.Else1) → (start c.before).args.t < partitions (start c.before).args.g
-below c = omega (arith, c.if1.false, c.before.partition-count.ensures)
+below : (c : tie.Else-partition_count-t) → (start c.before).args.t < partitions (start c.before).args.g
+below c = omega (arith, c.if-partition_count-t.false, c.partition_count.ensures)
 
 decide-requires : tie.Need-decide-requires
 decide-requires c κs =
-    let e = c.before.before in
+    let e = c.before in
     let s = start e.before in
-    rw c.part_of.ensures (partition-whole _ _ s.pre.fine s.pre.memory_fits _ (below e), (s.pre.flash_fits, below e))
+    rw c.part_of.ensures (partition-whole _ _ s.requires.fine s.requires.memory_fits _ (below e), (s.requires.flash_fits, below e))
 
 -- ---- what is decided is decided of the partition
 decided : (c : tie.After-decide) → let a = (start (counted c)).args in plan_for a.g a.t (partition a.g a.t a.memory.now) a.flash.now ≡ c.decide.result
-decided c = let a = (start (counted c)).args in asked_of (λ p. plan_for a.g a.t p a.flash.now) c.decide.ensures c.before.part_of.ensures
+decided c = let a = (start (counted c)).args in asked_of (λ p. plan_for a.g a.t p a.flash.now) c.decide.ensures c.part_of.ensures
 
-leaves : (c : tie.After-known-told2) → let a = (start (counted c.before.before.before)).args in plan_for a.g a.t (partition a.g a.t a.memory.now) a.flash.now ≡ Entries c.before.less.given.0.0
-leaves c = decided c.before.before.before ∙ c.before.less.given.1
+leaves : (c : tie.In-Entries) → let a = (start (counted c.before.before.before)).args in plan_for a.g a.t (partition a.g a.t a.memory.now) a.flash.now ≡ Entries c.in-Entries.less
+leaves c = decided c.before ∙ c.in-Entries.is
 
-apply-at-requires : tie.Need-apply-at-requires
+apply-at-requires : tie.Need-apply_at-requires
 apply-at-requires c κs =
     let k = c.before in
-    let d = k.before.before.before in
+    let d = k.before in
     let s = start (counted d) in
-    (s.pre.fine, (s.pre.memory_fits, (below (there d), can-drop _ _ _ s.pre _ _ (leaves k))))
+    (s.requires.fine, (s.requires.memory_fits, (below (there d), can-drop _ _ _ s.requires _ _ (leaves k))))
 
-returns-2 : tie.Need-returns-2
+returns-2 : tie.Need-returns-in-Refused
 returns-2 c =
-    let d = c.before.before.before in
-    refuses _ _ _ (start (counted d)).requires _ _ (decided d ∙ c.before.refusal.given.1)
+    let d = c.before in
+    refuses _ _ _ (start (counted d)).requires _ _ (decided d ∙ c.in-Refused.is)
 
-returns-3 : tie.Need-returns-3
+returns-3 : tie.Need-returns-in-Entries
 returns-3 c =
     let a = c.before.before in
     let k = a.before.before in
-    drops _ _ _ (start (counted k.before.before.before)).requires _ _ (leaves k) _ a.apply_at.ensures
+    drops _ _ _ (start (counted k.before)).requires _ _ (leaves k) _ a.apply_at.ensures
 
-pub call-spec : {M : Type 1} → statement M
-call-spec = tie.close (tie.spec (λ c κs. search rules) returns (λ c κs. search rules) decide-requires (λ c. search rules) (λ c. search rules) apply-at-requires (λ c. search rules) returns-2 (λ c. search rules) returns-3)
+pub call_spec : {M : Type 1} → statement M
+call_spec = tie.close (tie.spec (λ c κs. search rules) returns (λ c κs. search rules) decide-requires (λ c. search rules) (λ c. search rules) apply-at-requires (λ c. search rules) returns-2 (λ c. search rules) returns-3)

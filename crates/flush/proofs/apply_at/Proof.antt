@@ -14,32 +14,32 @@ use Rattle.flush.proofs.apply_at.Statement.{statement}
 use Rattle.flush.proofs.apply_at.Tie as tie
 
 -- ---- the steps that the facts go back to
-abbrev start : tie.After-apply-at → tie.Start
+abbrev start : tie.After-apply_at → tie.Start
 start c = c.before.before.before.before.before
 
-abbrev flushed-at : tie.After-partition-size → tie.After-apply-at
+abbrev flushed-at : tie.After-partition_size → tie.After-apply_at
 flushed-at c = c.before.before.before.before.before.before
 
-words : (c : tie.After-apply-at) → let a = (start c).args in HeadWords (head_of (partition a.g a.t a.memory.now))
-words c = let a = (start c).args in partition-words a.g a.t a.memory.now (λ i. omega (arith, c.before.before.before.before.slice-known.given i))
+words : (c : tie.After-apply_at) → let a = (start c).args in HeadWords (head_of (partition a.g a.t a.memory.now))
+words c = let a = (start c).args in partition-words a.g a.t a.memory.now (λ i. omega (arith, c.slice_known-1.given i))
 
-total_kept : (c : tie.After-apply-at) → let a = (start c).args in total_of (partition a.g a.t c.apply_at.new.0) ≡ total_of (partition a.g a.t a.memory.now)
+total_kept : (c : tie.After-apply_at) → let a = (start c).args in total_of (partition a.g a.t c.apply_at.new.memory) ≡ total_of (partition a.g a.t a.memory.now)
 total_kept c =
     let a = (start c).args in
     let p = (start c).requires in
     ap total_of (changed-there a.g a.memory.now p.0 p.1.0 a.t p.1.1.0.below (flushed a.g a.t) (length-flushed a.g a.t) c.apply_at.ensures.0)
     ∙ total-flushed _ p.0 _ (partition-whole a.g a.memory.now p.0 p.1.0 a.t p.1.1.0.below).long (words c) _ (omega (arith, p.1.1.0.number))
 
-lent : (c : tie.After-partition-size) → let a = (start (flushed-at c)).args in Lent a.g a.t (flushed-at c).apply_at.new.0 c.before.partition-at.result c.partition-size.result
+lent : (c : tie.After-partition_size) → let a = (start (flushed-at c)).args in Lent a.g a.t (flushed-at c).apply_at.new.memory c.partition_at-a.result c.partition_size.result
 lent c =
     let p = (start (flushed-at c)).requires in
-    lends _ _ p.0 (changed-fits _ _ p.0 p.1.0 _ p.1.1.0.below _ (length-flushed _ _) (flushed-at c).apply_at.ensures.0) _ p.1.1.0.below _ _ c.before.partition-at.ensures c.partition-size.ensures
+    lends _ _ p.0 (changed-fits _ _ p.0 p.1.0 _ p.1.1.0.below _ (length-flushed _ _) (flushed-at c).apply_at.ensures.0) _ p.1.1.0.below _ _ c.partition_at-a.ensures c.partition_size.ensures
 
-change-total-requires : tie.Need-change-total-requires
+change-total-requires : tie.Need-change_total-requires
 change-total-requires c κs =
     let l = lent c.before in
     let d = flushed-at c.before in
-    let p = (start d).pre in
+    let p = (start d).requires in
     let t = ap total_of l.own ∙ total_kept d in
     (omega (arith, list_inside _ _ l.whole), (omega (arith, t, (words d).total), omega (arith, t, p.1.1.1.1)))
 
@@ -47,11 +47,11 @@ returns : tie.Need-returns
 returns c =
     let s = c.before.before.before.before in
     let d = flushed-at s in
-    let p = (start d).pre in
+    let p = (start d).requires in
     let less = (start d).args.less in
-    (changed-again _ _ p.0 p.1.0 _ p.1.1.0.below _ (length-flushed _ _) d.apply_at.ensures.0 (totalled 0 less) (length-totalled 0 less) ((lent s).back (totalled 0 less) (length-totalled 0 less) _ c.before.before.change-total.ensures), d.apply_at.ensures.1)
+    (changed-again _ _ p.0 p.1.0 _ p.1.1.0.below _ (length-flushed _ _) d.apply_at.ensures.0 (totalled 0 less) (length-totalled 0 less) ((lent s).back (totalled 0 less) (length-totalled 0 less) _ c.change_total.ensures), d.apply_at.ensures.1)
 
-pub apply-at-spec : {M : Type 1} → statement M
-apply-at-spec =
-    tie.close (tie.spec (λ c κs. let p = c.before.before.before.before.requires in (p.0, (p.1.0, (p.1.1.0, p.1.1.1.0)))) (λ c κs. search rules) (λ c κs. search rules) (λ c. omega (arith, (lent c).inside)) (λ c. search rules) (λ c. search rules) (λ c. omega (arith, (lent c).inside)) change-total-requires
+pub apply_at_spec : {M : Type 1} → statement M
+apply_at_spec =
+    tie.close (tie.spec (λ c κs. let p = c.requires in (p.0, (p.1.0, (p.1.1.0, p.1.1.1.0)))) (λ c κs. search rules) (λ c κs. search rules) (λ c. omega (arith, (lent c).inside)) (λ c. search rules) (λ c. search rules) (λ c. omega (arith, (lent c).inside)) change-total-requires
     (λ c. search rules) (λ c. search rules) returns)

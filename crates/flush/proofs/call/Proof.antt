@@ -17,62 +17,62 @@ use Rattle.flush.proofs.call.Statement.{statement}
 use Rattle.flush.proofs.call.Tie as tie
 
 -- ---- the steps that the facts go back to
-abbrev start : tie.After-partition-count → tie.Start
+abbrev start : tie.After-partition_count → tie.Start
 start c = c.before.before.before
 
-abbrev there : tie.After-decide → tie.Else1
-there c = c.before.before.before.before
+abbrev there : tie.After-decide → tie.Else-partition_count-t
+there c = c.before.before
 
-abbrev counted : tie.After-decide → tie.After-partition-count
+abbrev counted : tie.After-decide → tie.After-partition_count
 counted c = (there c).before
 
-abbrev known : tie.After-apply-at → tie.After-known-told2
+abbrev known : tie.After-apply_at → tie.In-Entries
 known c = c.before.before.before
 
 -- ---- no such partition
-returns : tie.Need-returns
+returns : tie.Need-returns-then-partition_count-t
 returns c =
     let s = start c.before in
-    refusing _ _ _ _ (checks-flush _ _ s.pre.own s.pre.opens _ ∙ flush-4 _ _ _ _ (omega (arith, c.if1.true, c.before.partition-count.ensures)))
+    refusing _ _ _ _ (checks-flush _ _ s.requires.own s.requires.opens _ ∙ flush-4 _ _ _ _ (omega (arith, c.if-partition_count-t.true, c.partition_count.ensures)))
 
-below : (c : tie.Else1) → (start c.before).args.t < partitions (start c.before).args.g
-below c = omega (arith, c.if1.false, c.before.partition-count.ensures)
+below : (c : tie.Else-partition_count-t) → (start c.before).args.t < partitions (start c.before).args.g
+below c = omega (arith, c.if-partition_count-t.false, c.partition_count.ensures)
 
 decide-requires : tie.Need-decide-requires
 decide-requires c κs =
-    let e = c.before.before.before in
+    let e = c.before in
     let s = start e.before in
-    rw c.before.part_of.ensures (partition-whole _ _ s.pre.fine s.pre.memory_fits _ (below e), (s.pre.flash_fits, below e))
+    rw c.part_of.ensures (partition-whole _ _ s.requires.fine s.requires.memory_fits _ (below e), (s.requires.flash_fits, below e))
 
 -- ---- what is decided is decided of the partition
 decided : (c : tie.After-decide) → let a = (start (counted c)).args in plan_for a.g a.t (partition a.g a.t a.memory.now) a.flash.now ≡ c.decide.result
-decided c = let a = (start (counted c)).args in asked_of (λ p. plan_for a.g a.t p a.flash.now) c.decide.ensures c.before.before.part_of.ensures
+decided c = let a = (start (counted c)).args in asked_of (λ p. plan_for a.g a.t p a.flash.now) c.decide.ensures c.part_of.ensures
 
-leaves : (c : tie.After-known-told2) → let a = (start (counted c.before.before.before)).args in plan_for a.g a.t (partition a.g a.t a.memory.now) a.flash.now ≡ Entries c.before.less.given.0.0
-leaves c = decided c.before.before.before ∙ c.before.less.given.1
+leaves : (c : tie.In-Entries) → let a = (start (counted c.before.before.before)).args in plan_for a.g a.t (partition a.g a.t a.memory.now) a.flash.now ≡ Entries c.in-Entries.less
+leaves c = decided c.before ∙ c.in-Entries.is
 
-bytes : (c : tie.After-known-told2) (i : ℕ) → get_or (start (counted c.before.before.before)).args.memory.now i 0 < 256
-bytes c i = omega (arith, (counted c.before.before.before).before.before.slice-known.given i)
+bytes : (c : tie.In-Entries) (i : ℕ) → get_or (start (counted c.before.before.before)).args.memory.now i 0 < 256
+bytes c i = omega (arith, (counted c.before).slice_known-1.given i)
 
 -- ---- what the calls ask
-apply-at-requires : tie.Need-apply-at-requires
+apply-at-requires : tie.Need-apply_at-requires
 apply-at-requires c κs =
     let k = c.before.before in
-    let d = k.before.before.before in
+    let d = k.before in
     let s = start (counted d) in
-    (s.pre.fine, (s.pre.memory_fits, (can-flush _ _ _ s.pre _ (below (there d)) (bytes k) _ (leaves k), (s.pre.flash_fits, can-lower _ _ _ s.pre _ (below (there d)) (bytes k) _ (leaves k)))))
+    (s.requires.fine, (s.requires.memory_fits, (can-flush _ _ _ s.requires _ (below (there d)) (bytes k) _ (leaves k), (s.requires.flash_fits, can-lower _ _ _ s.requires _ (below (there d)) (bytes k) _ (leaves k)))))
 
-returns-2 : tie.Need-returns-2
+returns-2 : tie.Need-returns-in-Refused
 returns-2 c =
-    let d = c.before.before.before in
-    refuses _ _ _ (start (counted d)).requires _ _ (decided d ∙ c.before.refusal.given.1)
+    let d = c.before in
+    refuses _ _ _ (start (counted d)).requires _ _ (decided d ∙ c.in-Refused.is)
 
-returns-3 : tie.Need-returns-3
+returns-3 : tie.Need-returns-in-Entries
 returns-3 c =
     let a = c.before.before.before.before in
     let k = known a in
-    let d = k.before.before.before in
+    let d = k.before in
     flushes _ _ _ (start (counted d)).requires _ (below (there d)) (bytes k) _ (leaves k) _ _ a.apply_at.ensures.0 a.apply_at.ensures.1
 
-pub call-spec : {M : Type 1} → statement M
-call-spec = tie.close (tie.spec (λ c κs. search rules) returns (λ c κs. search rules) decide-requires (λ c. search rules) (λ c. search rules) apply-at-requires (λ c. search rules) (λ c. search rules) returns-2 (λ c. search rules) (λ c. search rules) returns-3)
+pub call_spec : {M : Type 1} → statement M
+call_spec = tie.close (tie.spec (λ c κs. search rules) returns (λ c κs. search rules) decide-requires (λ c. search rules) (λ c. search rules) apply-at-requires (λ c. search rules) (λ c. search rules) returns-2 (λ c. search rules) (λ c. search rules) returns-3)

@@ -6,7 +6,7 @@ use Rattle.format.proofs.apply.Tie as tie
 use Rattle.model.specs.Format.{formatted}
 use Rattle.model.proofs.Sizes.{sizes, partition-from, partition-fits}
 
-write-opening-requires : tie.Need-write-opening-requires
+write-opening-requires : tie.Need-write_opening-requires
 write-opening-requires c κs =
     let s = c.before.before.before.before.before.before.before in
     let z = sizes _ s.requires.0 in
@@ -18,7 +18,7 @@ returns c =
     let e = c.before.before in
     let w = e.before.before.before.before in
     let z = w.before.before.before.before in
-    rw (e.empty-partitions.ensures, w.write-opening.ensures, z.zero.ensures, z.before.memory-need.ensures)
+    rw (e.empty_partitions.ensures, w.write_opening.ensures, z.zero.ensures, z.memory_need.ensures)
 
-pub apply-spec : {M : Type 1} → statement M
-apply-spec = tie.close (tie.spec (λ c κs. search rules) (λ c κs. search rules) write-opening-requires (λ c κs. search rules) (λ c. search rules) returns)
+pub apply_spec : {M : Type 1} → statement M
+apply_spec = tie.close (tie.spec (λ c κs. search rules) (λ c κs. search rules) write-opening-requires (λ c κs. search rules) (λ c. search rules) returns)

@@ -12,21 +12,21 @@ use Rattle.format.proofs.call.Statement.{statement}
 use Rattle.format.proofs.call.Tie as tie
 
 abbrev start : tie.After-decide → tie.Start
-start c = c.before.before.before.before
+start c = c.before.before.before
 
 -- the accepted format
-accepted : (c : tie.After-enum-told) → let a = (start c.before.before).args in format_checks a.g (areas a.memory.now a.flash.now) ≡ none
-accepted c = sym c.before.before.decide.ensures ∙ ap verdict c.enum_told.given.1
+accepted : (c : tie.In-Accepted) → let a = (start c.before.before).args in format_checks a.g (areas a.memory.now a.flash.now) ≡ none
+accepted c = sym c.decide.ensures ∙ ap verdict c.in-Accepted.is
 
 apply-requires : tie.Need-apply-requires
 apply-requires c κs = let w = format-accepted _ _ (accepted c.before) in (w.0, w.1)
 
-returns : tie.Need-returns
-returns c = refusing _ _ _ _ (checks-format _ _ ∙ sym c.before.before.before.decide.ensures ∙ ap verdict c.before.refusal.given.1)
+returns : tie.Need-returns-in-Refused
+returns c = refusing _ _ _ _ (checks-format _ _ ∙ sym c.decide.ensures ∙ ap verdict c.in-Refused.is)
 
-returns-2 : tie.Need-returns-2
+returns-2 : tie.Need-returns-in-Accepted
 returns-2 c =
-    doing _ _ _ 0 _ _ (checks-format _ _ ∙ accepted c.before.before.before.before) (result-format _ _) (effect-format _ _) c.before.before.apply.ensures refl
+    doing _ _ _ 0 _ _ (checks-format _ _ ∙ accepted c.before.before.before.before) (result-format _ _) (effect-format _ _) c.apply.ensures refl
 
-pub call-spec : {M : Type 1} → statement M
-call-spec = tie.close (tie.spec (λ c κs. search rules) (λ c. search rules) (λ c. search rules) apply-requires (λ c. search rules) returns (λ c. search rules) returns-2)
+pub call_spec : {M : Type 1} → statement M
+call_spec = tie.close (tie.spec (λ c κs. search rules) (λ c. search rules) (λ c. search rules) apply-requires (λ c. search rules) returns (λ c. search rules) returns-2)

@@ -14,50 +14,50 @@ use Rattle.model.proofs.Parts.{still-long}
 use Rattle.model.proofs.Lengths.{length-emptied_pages}
 use Rattle.partition.proofs.Lending.{Lent, lends}
 
-abbrev invariant-loop : tie.invariant-loop
+abbrev invariant-loop : tie.invariant-loop-t
 invariant-loop memory₀ g count size t₀ memory t = (t ≤ count) × (length memory ≡ length memory₀) × (memory ≡ emptied_partitions g t memory₀)
 
-abbrev decreases-loop : tie.decreases-loop
+abbrev decreases-loop : tie.decreases-loop-t
 decreases-loop memory₀ g count size t₀ memory t = count - t
 
-loop-holds : tie.Need-loop-init invariant-loop decreases-loop
+loop-holds : tie.Need-loop-t-init invariant-loop decreases-loop
 unfolding emptied_partitions
 loop-holds c = (omega arith, refl, refl)
 
-below : (c : tie.In-loop invariant-loop decreases-loop) → c.before.loop.t < partitions c.before.before.before.before.before.args.g
-below c = omega (arith, c.loop-test.true, c.before.before.before.partition-count.ensures)
+below : (c : tie.In-loop-t invariant-loop decreases-loop) → c.loop-t.t < partitions c.args.g
+below c = omega (arith, c.loop-t-test.true, c.partition_count-count.ensures)
 
-partition-at-requires : tie.Need-partition-at-requires invariant-loop decreases-loop
-partition-at-requires c κs = (c.before.before.before.before.before.requires.0, omega (arith, below c))
+partition-at-requires : tie.Need-partition_at-a-requires invariant-loop decreases-loop
+partition-at-requires c κs = (c.requires.0, omega (arith, below c))
 
-lent : (c : tie.After-partition-at invariant-loop decreases-loop) → let l = c.before.before.loop in Lent c.before.before.before.before.before.before.args.g l.t l.memory c.partition-at.result c.before.before.before.partition-size.result
+lent : (c : tie.After-partition_at-a invariant-loop decreases-loop) → let l = c.loop-t in Lent c.args.g l.t l.memory c.partition_at-a.result c.partition_size-size.result
 lent c =
     let s = c.before.before.before.before.before.before in
-    let l = c.before.before.loop in
-    lends _ _ s.requires.0 (omega (arith, l.invariant.1, s.requires.1)) _ (below c.before) _ _ c.partition-at.ensures c.before.before.before.partition-size.ensures
+    let l = c.loop-t in
+    lends _ _ s.requires.0 (omega (arith, l.invariant.1, s.requires.1)) _ (below c.before) _ _ c.partition_at-a.ensures c.partition_size-size.ensures
 
-empty-pages-requires : tie.Need-empty-pages-requires invariant-loop decreases-loop
+empty-pages-requires : tie.Need-empty_pages-requires invariant-loop decreases-loop
 empty-pages-requires c κs = ((lent c.before).whole, omega (arith, below c.before.before))
 
-loop-again : tie.Need-loop-preserved invariant-loop decreases-loop
+loop-again : tie.Need-loop-t-preserved invariant-loop decreases-loop
 unfolding emptied_partitions
 loop-again c =
     let b = c.before.before.before.before in
-    let a = c.before.before.before.before.before.before.before.before.before.before.args in
-    let l = c.before.before.before.before.before.before.loop in
+    let a = c.args in
+    let l = c.loop-t in
     let f = emptied_pages a.g l.t a.g.pages in
-    let e = (lent b).back f (length-emptied_pages a.g l.t a.g.pages) _ c.before.before.empty-pages.ensures in
+    let e = (lent b).back f (length-emptied_pages a.g l.t a.g.pages) _ c.empty_pages.ensures in
     let e' : within (partition_at a.g l.t) (stride a.g) f l.memory ≡ emptied_partitions a.g (l.t + 1) a.memory.now = rw (l.invariant.2, add-one l.t) in
     (omega arith, still-long _ _ f l.memory e l.invariant.1, e ∙ e')
 
-same_length : tie.Need-same-length invariant-loop decreases-loop
-same_length c = c.before.loop.invariant.1
+same_length : tie.Need-shape_of-memory invariant-loop decreases-loop
+same_length c = c.loop-t.invariant.1
 
 returns : tie.Need-returns invariant-loop decreases-loop
 returns c =
-    let a = c.before.before.before.before.before.args in
-    let e : c.before.loop.t ≡ partitions a.g = omega arith in
-    c.before.loop.invariant.2 ∙ ap (λ (n : ℕ). emptied_partitions a.g n a.memory.now) e
+    let a = c.args in
+    let e : c.loop-t.t ≡ partitions a.g = omega arith in
+    c.loop-t.invariant.2 ∙ ap (λ (n : ℕ). emptied_partitions a.g n a.memory.now) e
 
-pub empty-partitions-spec : {M : Type 1} → statement M
-empty-partitions-spec = tie.close (tie.spec invariant-loop decreases-loop (λ c κs. search rules) (λ c κs. search rules) loop-holds partition-at-requires (λ c. omega (arith, (lent c).inside)) (λ c. omega arith) (λ c. omega arith) (λ c. omega (arith, (lent c).inside)) empty-pages-requires (λ c. omega arith) (λ c. omega arith) loop-again same_length returns)
+pub empty_partitions_spec : {M : Type 1} → statement M
+empty_partitions_spec = tie.close (tie.spec invariant-loop decreases-loop (λ c κs. search rules) (λ c κs. search rules) loop-holds partition-at-requires (λ c. omega (arith, (lent c).inside)) (λ c. omega arith) (λ c. omega arith) (λ c. omega (arith, (lent c).inside)) empty-pages-requires (λ c. omega arith) (λ c. omega arith) loop-again same_length returns)

@@ -15,7 +15,7 @@ returns c =
     let w3 = w4.before.before.before.before in
     let w2 = w3.before.before.before.before in
     let w1 = w2.before.before.before.before in
-    rw (w8.write-u328.ensures, w7.write-u327.ensures, w6.write-u326.ensures, w5.write-u325.ensures, w4.write-u324.ensures, w3.write-u323.ensures, w2.write-u322.ensures, w1.write-u32.ensures)
+    rw (w8.write_u32-8.ensures, w7.write_u32-7.ensures, w6.write_u32-6.ensures, w5.write_u32-5.ensures, w4.write_u32-4.ensures, w3.write_u32-3.ensures, w2.write_u32-2.ensures, w1.write_u32.ensures)
 
-pub write-opening-spec : {M : Type 1} → statement M
-write-opening-spec = tie.close (tie.spec (λ c κs. search rules) (λ c κs. search rules) (λ c κs. search rules) (λ c κs. search rules) (λ c κs. search rules) (λ c κs. search rules) (λ c κs. search rules) (λ c κs. search rules) (λ c. search rules) returns)
+pub write_opening_spec : {M : Type 1} → statement M
+write_opening_spec = tie.close (tie.spec (λ c κs. search rules) (λ c κs. search rules) (λ c κs. search rules) (λ c κs. search rules) (λ c κs. search rules) (λ c κs. search rules) (λ c κs. search rules) (λ c κs. search rules) (λ c. search rules) returns)

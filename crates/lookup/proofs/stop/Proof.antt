@@ -3,8 +3,8 @@ use borrow.Author.Rules.{rules}
 use Rattle.lookup.proofs.stop.Statement.{statement}
 use Rattle.lookup.proofs.stop.Tie as tie
 
-returns-2 : tie.Need-returns-2
-returns-2 c = rw c.enum_told.given.1
+returns-2 : tie.Need-returns-in-Nothing
+returns-2 c = rw c.in-Nothing.is
 
-pub stop-spec : {M : Type 1} → statement M
-stop-spec = tie.close (tie.spec (λ c. search rules) (λ c. search rules) (λ c. search rules) (λ c. search rules) returns-2)
+pub stop_spec : {M : Type 1} → statement M
+stop_spec = tie.close (tie.spec (λ c. search rules) (λ c. search rules) (λ c. search rules) (λ c. search rules) returns-2)

@@ -21,7 +21,7 @@ abbrev read_at : tie.Else-head → tie.After-read-head
 read_at c = c.before.before
 
 abbrev numbered : tie.After-is_total_out → tie.Else-head
-numbered c = c.before.before.before.before.before
+numbered c = c.before.before.before
 
 -- ---- a flush number is left
 number : (c : tie.Else-head) → flushes_of (start (read_at c)).args.part.now ≡ last_flush → ⊥
@@ -43,7 +43,7 @@ judged c = let r = read_at (numbered c) in sym (c.is_total_out.ensures ∙ ap (t
 
 is-total-out-requires : tie.Need-is_total_out-requires
 is-total-out-requires c κs =
-    let r = read_at c.before.before.before.before in
+    let r = read_at c.before.before in
     let p = (start r).requires in
     (p.0.fine, (ap (head_overfull (start r).args.g) r.read-head.ensures ∙ p.1.0, p.1.1.1.1))
 
@@ -51,13 +51,13 @@ returns : tie.Need-returns-then-head
 returns c = no_number _ _ _ _ _ (omega (arith, flushes-is c.read-head.ensures))
 
 returns-2 : tie.Need-returns-then-is_total_out
-returns-2 c = let o = c.before in sym (planned o.before.before.before.before _ o.in-Entries.is ∙ rw (judged o, c.if-is_total_out.true))
+returns-2 c = let o = c.before in sym (planned o.before.before _ o.in-Entries.is ∙ rw (judged o, c.if-is_total_out.true))
 
 returns-3 : tie.Need-returns-in-Refused
-returns-3 c = sym (planned c.before.before.before _ c.in-Refused.is)
+returns-3 c = sym (planned c.before _ c.in-Refused.is)
 
 returns-4 : tie.Need-returns-else-is_total_out
-returns-4 c = let o = c.before in sym (planned o.before.before.before.before _ o.in-Entries.is ∙ rw (judged o, c.if-is_total_out.false))
+returns-4 c = let o = c.before in sym (planned o.before.before _ o.in-Entries.is ∙ rw (judged o, c.if-is_total_out.false))
 
 pub decide_spec : {M : Type 1} → statement M
 decide_spec = tie.close (tie.spec (λ c κs. omega (arith, list_inside _ _ c.requires.0)) returns read-outgoing-requires (λ c. search rules) (λ c. search rules) is-total-out-requires returns-2 returns-3 returns-4)

@@ -5,11 +5,11 @@ use Rattle.put.proofs.Planning.{zero, nonzero}
 use Rattle.put.proofs.decide.Statement.{statement}
 use Rattle.put.proofs.decide.Tie as tie
 
-returns : tie.Need-returns
-returns c = sym (zero _ _ _ _ _ c.if1.true)
+returns : tie.Need-returns-then-value-eq0
+returns c = sym (zero _ _ _ _ _ c.if-value-eq0.true)
 
-returns-2 : tie.Need-returns-2
-returns-2 c = c.decide-room.ensures ∙ sym (nonzero _ _ _ _ _ c.before.if1.false)
+returns-2 : tie.Need-returns
+returns-2 c = c.decide_room.ensures ∙ sym (nonzero _ _ _ _ _ c.if-value-eq0.false)
 
-pub decide-spec : {M : Type 1} → statement M
-decide-spec = tie.close (tie.spec returns (λ c κs. search rules) returns-2)
+pub decide_spec : {M : Type 1} → statement M
+decide_spec = tie.close (tie.spec returns (λ c κs. search rules) returns-2)

@@ -12,25 +12,25 @@ use Rattle.put.proofs.plan_store.Statement.{statement}
 use Rattle.put.proofs.plan_store.Tie as tie
 
 find-requires : tie.Need-find-requires
-find-requires c κs = let s = c.before.before.before.before.before.before in rw c.page-of.ensures (s.requires.0, (page-of-lt _ s.requires.0.fine _, (key_fits _ _ _ s.requires.1).1))
+find-requires c κs = let s = c.before.before.before.before.before.before in rw c.page_of.ensures (s.requires.0, (page-of-lt _ s.requires.0.fine _, (key_fits _ _ _ s.requires.1).1))
 
-returns : tie.Need-returns
+returns : tie.Need-returns-then-read-most_entries
 returns c =
     let r = c.before.before.before in
-    sym (room _ _ _ r.before.before.requires.1 (omega (arith, total-is r.read.ensures, c.before.before.most-entries.ensures)))
+    sym (room _ _ _ r.requires.1 (omega (arith, total-is r.read.ensures, c.most_entries.ensures)))
 
-returns-2 : tie.Need-returns-2
+returns-2 : tie.Need-returns-in-At
 returns-2 c =
-    let q = c.before.before.before in
-    sym (found _ _ _ q.before.before.before.before.before.before.requires.1 _ (rw q.page-of.ensures at (told_at c.before.before.find.ensures c.enum_told.given.1)))
+    let q = c.before.before in
+    sym (found _ _ _ q.requires.1 _ (rw q.page_of.ensures at (told_at c.find.ensures c.in-At.is)))
 
-returns-3 : tie.Need-returns-3
+returns-3 : tie.Need-returns-in-Nothing
 returns-3 c =
-    let q = c.before.before.before in
+    let q = c.before.before in
     let e = q.before in
     let r = e.before.before.before in
-    sym (no_room _ _ _ r.before.before.requires.1 (omega (arith, total-is r.read.ensures, e.before.before.most-entries.ensures))
-    (rw q.page-of.ensures at (told_at c.before.before.find.ensures c.enum-told2.given.1)))
+    sym (no_room _ _ _ r.requires.1 (omega (arith, total-is r.read.ensures, e.most_entries.ensures))
+    (rw q.page_of.ensures at (told_at c.find.ensures c.in-Nothing.is)))
 
-pub plan-store-spec : {M : Type 1} → statement M
-plan-store-spec = tie.close (tie.spec (λ c κs. omega (arith, list_inside _ _ c.before.requires.0)) (λ c κs. search rules) returns (λ c κs. search rules) find-requires (λ c. search rules) (λ c. search rules) returns-2 returns-3)
+pub plan_store_spec : {M : Type 1} → statement M
+plan_store_spec = tie.close (tie.spec (λ c κs. omega (arith, list_inside _ _ c.requires.0)) (λ c κs. search rules) returns (λ c κs. search rules) find-requires (λ c. search rules) (λ c. search rules) returns-2 returns-3)

@@ -16,10 +16,10 @@ use Rattle.storing.proofs.unlist.Tie as tie
 
 -- where the head was read, from where an entry is found
 abbrev at_read : tie.In-At → tie.After-read-head
-at_read c = c.before.before.before.before
+at_read c = c.before.before
 
 abbrev start : tie.In-At → tie.Start
-start c = (at_read c).before.before.before
+start c = (at_read c).before.before
 
 -- the place that was found
 at : (c : tie.In-At) → let a = (start c).args in listed_at (listed_of a.part.now) a.key (list_of a.g a.part.now) ≡ some c.in-At.i

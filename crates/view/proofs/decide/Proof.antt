@@ -16,43 +16,43 @@ use Rattle.view.proofs.decide.Statement.{statement}
 use Rattle.view.proofs.decide.Tie as tie
 
 -- the head that is tested is the partition's
-tested : (c : tie.After-is-overfull) → let a = c.before.before.before.args in head_overfull a.g (head_of a.part.now) ≡ c.is-overfull.result
-tested c = let a = c.before.before.before.args in sym (c.is-overfull.ensures ∙ ap (head_overfull a.g) c.before.read.ensures)
+tested : (c : tie.After-is_overfull) → let a = c.args in head_overfull a.g (head_of a.part.now) ≡ c.is_overfull.result
+tested c = let a = c.args in sym (c.is_overfull.ensures ∙ ap (head_overfull a.g) c.read-head.ensures)
 
 -- behind the first test: as the batch says
-of-batch : (c : tie.After-is-live) → let a = c.before.before.before.before.before.before.args in view_checks a.g a.t a.q a.n a.part.now ≡ refuse_if (not c.is_live.result) 17 none
+of-batch : (c : tie.After-is_live) → let a = c.args in view_checks a.g a.t a.q a.n a.part.now ≡ refuse_if (not c.is_live.result) 17 none
 of-batch c =
     let e = c.before.before in
     let s = c.before.before.before.before.before.before in
     let a = s.args in
-    let other = ne_eqb _ _ c.before.if2.false in
-    let asked : is_live (head_of a.part.now) a.n ≡ c.is_live.result = sym (c.is_live.ensures ∙ ap (λ (h : model.Head). is_live h a.n) e.before.before.read.ensures) in
-    view-last _ _ _ _ _ s.requires.1.0 s.requires.1.1 (tested e.before ∙ e.if1.false) (rw other) ∙ rw (other, asked)
+    let other = ne_eqb _ _ c.if-n-eq0.false in
+    let asked : is_live (head_of a.part.now) a.n ≡ c.is_live.result = sym (c.is_live.ensures ∙ ap (λ (h : model.Head). is_live h a.n) e.read-head.ensures) in
+    view-last _ _ _ _ _ s.requires.1.0 s.requires.1.1 (tested e.before ∙ e.if-is_overfull.false) (rw other) ∙ rw (other, asked)
 
-is-live-requires : tie.Need-is-live-requires
-is-live-requires c κs = (head-fits _ _ (sym c.before.before.is-overfull.ensures ∙ c.before.if1.false)).flushed
+is-live-requires : tie.Need-is_live-requires
+is-live-requires c κs = (head-fits _ _ (sym c.is_overfull.ensures ∙ c.if-is_overfull.false)).flushed
 
-returns : tie.Need-returns
-returns c = let s = c.before.before.before.before in sym (view-12 _ _ _ _ _ s.requires.1.0 s.requires.1.1 (tested c.before ∙ c.if1.true))
+returns : tie.Need-returns-then-is_overfull
+returns c = let s = c.before.before.before.before in sym (view-12 _ _ _ _ _ s.requires.1.0 s.requires.1.1 (tested c.before ∙ c.if-is_overfull.true))
 
-returns-2 : tie.Need-returns-2
+returns-2 : tie.Need-returns-then-is_page_overfull
 returns-2 c =
     let s = c.before.before.before.before.before.before.before in
     let e = c.before.before.before in
-    sym (view-12-page _ _ _ _ _ s.requires.1.0 s.requires.1.1 (tested e.before ∙ e.if1.false) c.before.before.if2.true (sym c.before.is-page-overfull.ensures ∙ c.if3.true))
+    sym (view-12-page _ _ _ _ _ s.requires.1.0 s.requires.1.1 (tested e.before ∙ e.if-is_overfull.false) c.if-n-eq0.true (sym c.is_page_overfull.ensures ∙ c.if-is_page_overfull.true))
 
-returns-3 : tie.Need-returns-3
+returns-3 : tie.Need-returns-then-n-eq0
 returns-3 c =
     let s = c.before.before.before.before.before.before.before in
     let e = c.before.before.before in
-    let zero = eq-eqb _ _ c.before.before.if2.true in
-    sym (view-last _ _ _ _ _ s.requires.1.0 s.requires.1.1 (tested e.before ∙ e.if1.false) (rw zero (sym c.before.is-page-overfull.ensures ∙ c.if3.false)) ∙ rw zero)
+    let zero = eq-eqb _ _ c.if-n-eq0.true in
+    sym (view-last _ _ _ _ _ s.requires.1.0 s.requires.1.1 (tested e.before ∙ e.if-is_overfull.false) (rw zero (sym c.is_page_overfull.ensures ∙ c.if-is_page_overfull.false)) ∙ rw zero)
 
-returns-4 : tie.Need-returns-4
-returns-4 c = sym (of-batch c.before ∙ rw c.if4.true)
+returns-4 : tie.Need-returns-then-not-is_live
+returns-4 c = sym (of-batch c.before ∙ rw c.if-not-is_live.true)
 
-returns-5 : tie.Need-returns-5
-returns-5 c = sym (of-batch c.before ∙ rw c.if4.false)
+returns-5 : tie.Need-returns
+returns-5 c = sym (of-batch c.before ∙ rw c.if-not-is_live.false)
 
-pub decide-spec : {M : Type 1} → statement M
-decide-spec = tie.close (tie.spec (λ c κs. omega (arith, list_inside _ _ c.before.requires.0)) (λ c κs. search rules) returns (λ c κs. search rules) returns-2 returns-3 is-live-requires returns-4 returns-5)
+pub decide_spec : {M : Type 1} → statement M
+decide_spec = tie.close (tie.spec (λ c κs. omega (arith, list_inside _ _ c.requires.0)) (λ c κs. search rules) returns (λ c κs. search rules) returns-2 returns-3 is-live-requires returns-4 returns-5)
