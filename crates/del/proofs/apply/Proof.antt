@@ -42,12 +42,12 @@ list-requires c κs =
     rw d.drop_key-less.ensures.0 (record { fine = w.fine; long = length-unbuffered _ _ s.args.part.now ∙ w.long }, rw (listed_kept _ _ _ w) (s.requires.1.free _ (ap stamp c.in-Batch.is)))
 
 -- where the arms meet, the key is listed as the batch says
-joined : (c : tie.Joined-youngest) → let a = c.args in c.in-Batch.in-Batch-own.part ≡ listed_with (stamp a.youngest) a.g a.key (unbuffered a.g a.key a.part.now)
+joined : (c : tie.Joined-youngest) → let a = c.args in c.match-youngest.part ≡ listed_with (stamp a.youngest) a.g a.key (unbuffered a.g a.key a.part.now)
 joined c =
     let d = c.drop_key-less.ensures.0 in
-    ⊎_elim (λ w. rw (w.7, w.4.ensures, d, w.1.given.1)) (λ w. rw (w.2, d, w.1.given.1)) c.in-Batch.in-Batch-own.branch-raw
+    ⊎_elim (λ w. rw (w.part-is, w.list.ensures, d, w.in-Batch.is)) (λ w. rw (w.part-is, d, w.in-Nowhere.is)) c.match-youngest.branch-raw
 
-kept : (c : tie.Joined-youngest) → let p = c.args.part.now in (length c.in-Batch.in-Batch-own.part ≡ length p) × (total_of c.in-Batch.in-Batch-own.part ≡ total_of p)
+kept : (c : tie.Joined-youngest) → let p = c.args.part.now in (length c.match-youngest.part ≡ length p) × (total_of c.match-youngest.part ≡ total_of p)
 kept c =
     let b = c.before.before.before.before.before in
     head-kept _ _ _ b.requires.0 _ _ b.requires.1 (λ i. omega (arith, b.slice_known-1.given i)) (joined c)
@@ -65,7 +65,7 @@ change-total-requires c κs =
     )
 
 same_length : tie.Need-shape_of-part
-same_length c = c.change_total.auto.0 ∙ (kept c.before.before.before.before).0
+same_length c = c.change_total.auto.part ∙ (kept c.before.before.before.before).0
 
 returns : tie.Need-returns
 returns c = let m = c.before.before.before.before in c.change_total.ensures ∙ ap₂ (totalled 0) m.drop_key-less.ensures.1 (joined m)

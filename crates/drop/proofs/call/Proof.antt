@@ -44,7 +44,7 @@ decide-requires c κs =
 decided : (c : tie.After-decide) → let a = (start (counted c)).args in plan_for a.g a.t (partition a.g a.t a.memory.now) a.flash.now ≡ c.decide.result
 decided c = let a = (start (counted c)).args in asked_of (λ p. plan_for a.g a.t p a.flash.now) c.decide.ensures c.part_of.ensures
 
-leaves : (c : tie.In-Entries) → let a = (start (counted c.before.before.before)).args in plan_for a.g a.t (partition a.g a.t a.memory.now) a.flash.now ≡ Entries c.in-Entries.less
+leaves : (c : tie.In-Entries) → let a = (start (counted c.before)).args in plan_for a.g a.t (partition a.g a.t a.memory.now) a.flash.now ≡ Entries c.in-Entries.less
 leaves c = decided c.before ∙ c.in-Entries.is
 
 apply-at-requires : tie.Need-apply_at-requires

@@ -48,10 +48,10 @@ decide-requires c κs =
 decided : (c : tie.After-decide) → let a = (start (counted c)).args in plan_for a.g a.t (partition a.g a.t a.memory.now) a.flash.now ≡ c.decide.result
 decided c = let a = (start (counted c)).args in asked_of (λ p. plan_for a.g a.t p a.flash.now) c.decide.ensures c.part_of.ensures
 
-leaves : (c : tie.In-Entries) → let a = (start (counted c.before.before.before)).args in plan_for a.g a.t (partition a.g a.t a.memory.now) a.flash.now ≡ Entries c.in-Entries.less
+leaves : (c : tie.In-Entries) → let a = (start (counted c.before)).args in plan_for a.g a.t (partition a.g a.t a.memory.now) a.flash.now ≡ Entries c.in-Entries.less
 leaves c = decided c.before ∙ c.in-Entries.is
 
-bytes : (c : tie.In-Entries) (i : ℕ) → get_or (start (counted c.before.before.before)).args.memory.now i 0 < 256
+bytes : (c : tie.In-Entries) (i : ℕ) → get_or (start (counted c.before)).args.memory.now i 0 < 256
 bytes c i = omega (arith, (counted c.before).slice_known-1.given i)
 
 -- ---- what the calls ask

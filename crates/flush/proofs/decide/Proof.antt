@@ -31,8 +31,8 @@ head-fits c = sym (overfull c.before) ∙ c.if-is_overfull.false
 pages-fit : (c : tie.Else-is_some_page_overfull) → let a = (start c.before.before).args in some_page_overfull a.g a.part.now ≡ false
 pages-fit c = sym c.is_some_page_overfull.ensures ∙ c.if-is_some_page_overfull.false
 
-in_use : (c : tie.Else-not-is_in_use) → let a = (start (behind c)).args in in_use a.g a.part.now ≡ true
-in_use c = sym c.is_in_use.ensures ∙ c.if-not-is_in_use.false
+used : (c : tie.Else-not-is_in_use) → let a = (start (behind c)).args in in_use a.g a.part.now ≡ true
+used c = sym c.is_in_use.ensures ∙ c.if-not-is_in_use.false
 
 -- ---- the answers
 returns : tie.Need-returns-then-is_overfull
@@ -56,7 +56,7 @@ returns-4 : tie.Need-returns
 unfolding leaving_for plan_for
 returns-4 c =
     let e = behind c.before in
-    c.decide.ensures ∙ rw (flush-last _ _ _ _ (start e).requires.1.1 (head-fits e) (pages-fit c.before.before.before), in_use c.before)
+    c.decide.ensures ∙ rw (flush-last _ _ _ _ (start e).requires.1.1 (head-fits e) (pages-fit c.before.before.before), used c.before)
 
 pub decide_spec : {M : Type 1} → statement M
 decide_spec = tie.close (tie.spec (λ c κs. omega (arith, list_inside _ _ c.requires.0)) (λ c κs. c.requires.0.fine) returns (λ c κs. search rules) returns-2 (λ c κs. search rules) returns-3 decide-requires returns-4)

@@ -15,7 +15,7 @@ abbrev start : tie.After-decide → tie.Start
 start c = c.before.before.before
 
 -- the accepted format
-accepted : (c : tie.In-Accepted) → let a = (start c.before.before).args in format_checks a.g (areas a.memory.now a.flash.now) ≡ none
+accepted : (c : tie.In-Accepted) → let a = (start c.before).args in format_checks a.g (areas a.memory.now a.flash.now) ≡ none
 accepted c = sym c.decide.ensures ∙ ap verdict c.in-Accepted.is
 
 apply-requires : tie.Need-apply-requires

@@ -111,7 +111,7 @@ passed : (c : tie.Else-not-passes invariant-loop decreases-loop invariant-batche
 passed c = tested c.before ∙ c.if-not-passes.false
 
 returns : tie.Need-returns-then-not-is_expected_at invariant-loop decreases-loop invariant-batches decreases-batches
-returns c = c.failed.ensures ∙ sym (at-bad _ _ _ _ _ _ _ _ (turn c.before.before.before).batches.inv.4 (omega arith) (passed c.before.before.before.before.before) (checked c.before.before ∙ c.if-not-is_expected_at.true))
+returns c = c.failed.ensures ∙ sym (at-bad _ _ _ _ _ _ _ _ (turn c.before.before.before).batches.invariant.4 (omega arith) (passed c.before.before.before.before.before) (checked c.before.before ∙ c.if-not-is_expected_at.true))
 
 -- the page's used entries fit it
 room : (c : tie.Else-not-is_expected_at invariant-loop decreases-loop invariant-batches decreases-batches) → let page = lent c.before.before in (16 + 16 * count_of page ≤ length page) × (length page ≤ 4096)

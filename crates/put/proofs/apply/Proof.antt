@@ -34,12 +34,12 @@ apply-at-requires c κs =
     (s.requires.0.fine, (s.requires.0.memory_fits, (rw c.partition_of.ensures (can-flush _ _ _ s.requires.0 _ _ (key d) (bytes d) _ (planned s ∙ p.in-Flush.is)), s.requires.0.flash_fits)))
 
 -- ---- where the arms meet
-ready : (c : tie.Joined-plan) → let a = (start c.before).args in Ready a.g a.memory.now a.flash.now a.key a.value c.in-Refused.in-Refused-own.memory c.in-Refused.in-Refused-own.flash c.in-Refused.in-Refused-own.less c.in-Refused.in-Refused-own.pages
+ready : (c : tie.Joined-plan) → let a = (start c.before).args in Ready a.g a.memory.now a.flash.now a.key a.value c.match-plan.memory c.match-plan.flash c.match-plan.less c.match-plan.pages
 ready c =
     let e = planned (start c.before) in
-    ⊎_elim (λ w. kept (e ∙ w.1.given.1) w.2 w.3 w.5 w.4)
-    (λ w. flushed-first (rw w.14 (e ∙ w.1.given.1)) (w.11 ∙ rw w.5.ensures at w.6.ensures.0) (w.12 ∙ rw w.5.ensures at w.6.ensures.1) w.13)
-    c.in-Refused.in-Refused-own.branch-raw
+    ⊎_elim (λ w. kept (e ∙ w.in-Store.is) w.memory-is w.flash-is w.less-is w.pages-is)
+    (λ w. flushed-first (rw w.less-is (e ∙ w.in-Flush.is)) (w.memory-is ∙ rw w.partition_of.ensures at w.apply_at.ensures.0) (w.flash-is ∙ rw w.partition_of.ensures at w.apply_at.ensures.1) w.pages-is)
+    c.match-plan.branch-raw
 
 store-unlisted-at-requires : tie.Need-store_unlisted_at-requires
 store-unlisted-at-requires c κs =
@@ -61,4 +61,4 @@ returns-2 c =
 pub apply_spec : {M : Type 1} → statement M
 apply_spec =
     tie.close (tie.spec (λ c. search rules) returns (λ c. search rules) (λ c. search rules) (λ c κs. search rules) apply-at-requires
-    store-unlisted-at-requires (λ c. c.store_unlisted_at.auto.0 ∙ (same-lengths (ready c.before.before.before.before)).0) (λ c. (same-lengths (ready c.before.before.before.before)).1) returns-2)
+    store-unlisted-at-requires (λ c. c.store_unlisted_at.auto.memory ∙ (same-lengths (ready c.before.before.before.before)).0) (λ c. (same-lengths (ready c.before.before.before.before)).1) returns-2)
