@@ -30,29 +30,29 @@ by-page : (s : tie.Start) → let a = s.args in answers_with a.g a.spot.partitio
 by-page s = answers_by _ _ _ _ _ _ _ _ _ s.requires.1.0 s.requires.1.1
 
 -- the first entry with the key
-first : (c : tie.After-known-told) → let a = c.before.before.before.before.before.before.before.args in searched a.entry.key a.page.now ≡ some c.before.first.given.0.0
-first c = told_at c.before.before.before.search.ensures c.before.first.given.1
+first : (c : tie.In-At) → let a = c.args in searched a.entry.key a.page.now ≡ some c.in-At.first
+first c = told_at c.search.ensures c.in-At.is
 
-returns : tie.Need-returns
-returns c = let k = c.before.before in sym (by-page k.before.before.before.before.before.before.before ∙ rw (first k, ne_eqb _ _ (λ e. c.if1.true (sym e)), and-false))
+returns : tie.Need-returns-then-first-entry
+returns c = let k = c.before.before in sym (by-page k.before.before.before.before.before ∙ rw (first k, ne_eqb _ _ (λ e. c.if-first-entry.true (sym e)), and-false))
 
-answers-in-requires : tie.Need-answers-in-requires
+answers-in-requires : tie.Need-answers_in-requires
 answers-in-requires c κs =
     let k = c.before.before in
-    let s = k.before.before.before.before.before.before.before in
+    let s = k.before.before.before.before.before in
     let p = s.requires in
     (p.0, ap is_some (ap (searched s.args.entry.key) (sym p.1.0) ∙ first k))
 
-returns-2 : tie.Need-returns-2
+returns-2 : tie.Need-returns-else-first-entry
 returns-2 c =
     let k = c.before.before.before in
-    c.answers-in.ensures ∙ sym (by-page k.before.before.before.before.before.before.before ∙ rw (first k, eq-eqb _ _ (sym c.before.if1.false)) (and-true _))
+    c.answers_in.ensures ∙ sym (by-page k.before.before.before.before.before ∙ rw (first k, eq-eqb _ _ (sym c.if-first-entry.false)) (and-true _))
 
-returns-3 : tie.Need-returns-3
+returns-3 : tie.Need-returns-in-Nothing
 returns-3 c =
-    let s = c.before.before.before.before.before.before in
-    let e : searched s.args.entry.key s.args.page.now ≡ none = told_at c.before.before.search.ensures c.enum_told.given.1 in
+    let s = c.before.before.before.before.before in
+    let e : searched s.args.entry.key s.args.page.now ≡ none = told_at c.search.ensures c.in-Nothing.is in
     sym (by-page s ∙ rw (e, and-false))
 
-pub answers-with-spec : {M : Type 1} → statement M
-answers-with-spec = tie.close (tie.spec (λ c κs. fits c.before.before.before) (λ c. search rules) returns answers-in-requires (λ c. search rules) returns-2 returns-3)
+pub answers_with_spec : {M : Type 1} → statement M
+answers_with_spec = tie.close (tie.spec (λ c κs. fits c.before.before.before) (λ c. search rules) returns answers-in-requires (λ c. search rules) returns-2 returns-3)

@@ -21,33 +21,33 @@ use Rattle.sources.proofs.Sources.{batch-inside, source-page-fits}
 use Rattle.answering.proofs.has_key.Statement.{statement}
 use Rattle.answering.proofs.has_key.Tie as tie
 
-slot-of-requires : tie.Need-slot-of-requires
-slot-of-requires c κs = let p = c.before.before.requires in (p.0.whole.fine, omega (arith, live-bounds _ _ p.1.0))
+slot-of-requires : tie.Need-slot_of-slot-requires
+slot-of-requires c κs = let p = c.requires in (p.0.whole.fine, omega (arith, live-bounds _ _ p.1.0))
 
 passes-requires : tie.Need-passes-requires
-passes-requires c κs = let w = c.before.before.before.requires.0.whole in (w.fine, (slot-is-lt _ w.fine _ c.slot_of.ensures, w.long))
+passes-requires c κs = let w = c.requires.0.whole in (w.fine, (slot-is-lt _ w.fine _ c.slot_of-slot.ensures, w.long))
 
 -- the filter's answer is the batch's
-tested : (c : tie.After-passes) → let a = c.before.before.before.before.args in batch_passes a.g a.key a.part.now a.n ≡ c.passes.result
+tested : (c : tie.After-passes) → let a = c.args in batch_passes a.g a.key a.part.now a.n ≡ c.passes.result
 tested c =
     let s = c.before.before.before.before in
     let a = s.args in
-    batch-asked a.g a.key a.part.now a.n ∙ rw (c.passes.ensures, c.before.slot_of.ensures, s.requires.1.1)
+    batch-asked a.g a.key a.part.now a.n ∙ rw (c.passes.ensures, c.slot_of-slot.ensures, s.requires.1.1)
 
-returns : tie.Need-returns
-returns c = rw (tested c.before ∙ not-true _ c.if1.true)
+returns : tie.Need-returns-then-not-passes
+returns c = rw (tested c.before ∙ c.if-not-passes.true)
 
-slot-page-at-requires : tie.Need-slot-page-at-requires
+slot-page-at-requires : tie.Need-slot_page_at-a-requires
 slot-page-at-requires c κs =
     let s = c.before.before.before.before.before.before in
     let ok = s.requires.0.whole.fine in
-    (ok, (omega (arith, s.requires.0.below), (slot-is-lt _ ok _ c.before.before.before.slot_of.ensures, omega (arith, c.page-of.ensures, page-of-lt s.args.g ok s.args.key))))
+    (ok, (omega (arith, s.requires.0.below), (slot-is-lt _ ok _ c.slot_of-slot.ensures, omega (arith, c.page_of.ensures, page-of-lt s.args.g ok s.args.key))))
 
 -- where the page lies, and that it fits
-spot : (c : tie.After-slot-page-at) → let a = c.before.before.before.before.before.before.before.args in c.slot-page-at.result ≡ slot_page_at a.g a.t (slot a.g a.n) (page_of a.g a.key)
-spot c = rw (c.slot-page-at.ensures, c.before.before.before.before.slot_of.ensures, c.before.page-of.ensures)
+spot : (c : tie.After-slot_page_at-a) → let a = c.args in c.slot_page_at-a.result ≡ slot_page_at a.g a.t (slot a.g a.n) (page_of a.g a.key)
+spot c = rw (c.slot_page_at-a.ensures, c.slot_of-slot.ensures, c.page_of.ensures)
 
-inside : (c : tie.After-slot-page-at) → let a = c.before.before.before.before.before.before.before.args in (c.slot-page-at.result + a.g.page ≤ length a.flash.now) × (c.slot-page-at.result + a.g.page ≤ 2147483648)
+inside : (c : tie.After-slot_page_at-a) → let a = c.args in (c.slot_page_at-a.result + a.g.page ≤ length a.flash.now) × (c.slot_page_at-a.result + a.g.page ≤ 2147483648)
 inside c =
     let s = c.before.before.before.before.before.before.before in
     let a = s.args in
@@ -67,20 +67,20 @@ search-requires : tie.Need-search-requires
 search-requires c κs = rw (add-sub_cancel_left, spot c.before.before) (fits c.before.before.before.before.before.before.before.before.before)
 
 -- the page's answer
-passed : (c : tie.Else1) → let a = c.before.before.before.before.before.args in batch_passes a.g a.key a.part.now a.n ≡ true
-passed c = tested c.before ∙ not-false _ c.if1.false
+passed : (c : tie.Else-not-passes) → let a = c.args in batch_passes a.g a.key a.part.now a.n ≡ true
+passed c = tested c.before ∙ c.if-not-passes.false
 
-returns-2 : tie.Need-returns-2
+returns-2 : tie.Need-returns-in-At
 returns-2 c =
-    let f = c.before.before in
+    let f = c.before in
     let s = f.before.before in
-    rw (passed s.before.before.before, told_at (rw (add-sub_cancel_left, spot s.before) at f.search.ensures) c.enum_told.given.1)
+    rw (passed s.before.before.before, told_at (rw (add-sub_cancel_left, spot s.before) at f.search.ensures) c.in-At.is)
 
-returns-3 : tie.Need-returns-3
+returns-3 : tie.Need-returns-in-Nothing
 returns-3 c =
-    let f = c.before.before in
+    let f = c.before in
     let s = f.before.before in
-    rw (passed s.before.before.before, told_at (rw (add-sub_cancel_left, spot s.before) at f.search.ensures) c.enum-told2.given.1)
+    rw (passed s.before.before.before, told_at (rw (add-sub_cancel_left, spot s.before) at f.search.ensures) c.in-Nothing.is)
 
-pub has-key-spec : {M : Type 1} → statement M
-has-key-spec = tie.close (tie.spec slot-of-requires passes-requires returns (λ c κs. search rules) slot-page-at-requires (λ c. search rules) (λ c. omega (arith, inside c.before)) (λ c. search rules) (λ c. search rules) (λ c. omega (arith, inside c.before)) search-requires (λ c. search rules) (λ c. search rules) returns-2 returns-3)
+pub has_key_spec : {M : Type 1} → statement M
+has_key_spec = tie.close (tie.spec slot-of-requires passes-requires returns (λ c κs. search rules) slot-page-at-requires (λ c. search rules) (λ c. omega (arith, inside c.before)) (λ c. search rules) (λ c. search rules) (λ c. omega (arith, inside c.before)) search-requires (λ c. search rules) (λ c. search rules) returns-2 returns-3)

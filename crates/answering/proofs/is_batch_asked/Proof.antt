@@ -25,41 +25,41 @@ find-requires : tie.Need-find-requires
 find-requires c κs =
     let s = c.before.before.before in
     let r = s.requires.0 in
-    (r.whole, rw c.page-of.ensures (page-of-lt _ r.whole.fine s.args.key, pages-fit _ _ r.pages _ (page-of-lt _ r.whole.fine s.args.key)))
+    (r.whole, rw c.page_of.ensures (page-of-lt _ r.whole.fine s.args.key, pages-fit _ _ r.pages _ (page-of-lt _ r.whole.fine s.args.key)))
 
 -- by what the buffer page holds of the key, and what the younger batches answer
-asked_of : (c : tie.After-find) → let a = c.before.before.before.before.args in let page = buffer_of a.g a.part.now (page_of a.g a.key) in
+asked_of : (c : tie.After-find) → let a = c.args in let page = buffer_of a.g a.part.now (page_of a.g a.key) in
     is_found_in (batch a.n) (sought_among a.g (live_of a.part.now) a.key a.part.now a.flash.now)
     ≡ is_absent (hit_in page (tally 0 (compared a.key page)) buffer (found_at c.find.result) (read_among a.g (flushes_of a.part.now - a.n) a.key a.part.now a.flash.now)) && batch_passes a.g a.key a.part.now a.n
 asked_of c =
     let s = c.before.before.before.before in
     let p = s.requires in
-    rw (c.find.ensures, c.before.page-of.ensures) (asked _ _ _ _ p.0 _ p.1.0 _ p.1.1.0 p.1.1.1)
+    rw (c.find.ensures, c.page_of.ensures) (asked _ _ _ _ p.0 _ p.1.0 _ p.1.1.0 p.1.1.1)
 
-returns : tie.Need-returns
+returns : tie.Need-returns-then-is_superseded
 returns c =
-    let f = c.before.before.before.before in
-    let a = f.before.before.before.before.args in
-    let answers : is_absent (read_among a.g (flushes_of a.part.now - a.n) a.key a.part.now a.flash.now) ≡ false = not-true _ (sym c.before.is-superseded.ensures ∙ c.if1.true) in
-    sym (asked_of f ∙ rw (c.before.before.enum-told2.given.1, answers))
+    let f = c.before.before.before in
+    let a = f.args in
+    let answers : is_absent (read_among a.g (flushes_of a.part.now - a.n) a.key a.part.now a.flash.now) ≡ false = not-true _ (sym c.is_superseded.ensures ∙ c.if-is_superseded.true) in
+    sym (asked_of f ∙ rw (c.in-Nothing.is, answers))
 
-slot-of-requires : tie.Need-slot-of-requires
-slot-of-requires c κs = let p = c.before.before.before.before.before.before.before.before.requires in (p.0.whole.fine, omega (arith, live-bounds _ _ p.1.0))
+slot-of-requires : tie.Need-slot_of-requires
+slot-of-requires c κs = let p = c.requires in (p.0.whole.fine, omega (arith, live-bounds _ _ p.1.0))
 
 passes-requires : tie.Need-passes-requires
-passes-requires c κs = let w = c.before.before.before.before.before.before.before.before.before.before.requires.0.whole in (w.fine, (slot-is-lt _ w.fine _ c.before.slot_of.ensures, w.long))
+passes-requires c κs = let w = c.requires.0.whole in (w.fine, (slot-is-lt _ w.fine _ c.slot_of.ensures, w.long))
 
-returns-2 : tie.Need-returns-2
-returns-2 c = sym (asked_of c.before.before ∙ rw c.enum_told.given.1)
+returns-2 : tie.Need-returns-in-At
+returns-2 c = sym (asked_of c.before ∙ rw c.in-At.is)
 
-returns-3 : tie.Need-returns-3
+returns-3 : tie.Need-returns-else-is_superseded
 returns-3 c =
     let e = c.before.before.before in
-    let f = e.before.before.before.before in
-    let a = f.before.before.before.before.args in
-    let silent : is_absent (read_among a.g (flushes_of a.part.now - a.n) a.key a.part.now a.flash.now) ≡ true = not-false _ (sym e.before.is-superseded.ensures ∙ e.if1.false) in
-    rw (c.passes.ensures, c.before.mix.ensures, c.before.before.slot_of.ensures, ← batch-asked a.g a.key a.part.now a.n)
-    (sym (asked_of f ∙ rw (e.before.before.enum-told2.given.1, silent)))
+    let f = e.before.before.before in
+    let a = f.args in
+    let silent : is_absent (read_among a.g (flushes_of a.part.now - a.n) a.key a.part.now a.flash.now) ≡ true = not-false _ (sym e.is_superseded.ensures ∙ e.if-is_superseded.false) in
+    rw (c.passes.ensures, c.mix.ensures, c.slot_of.ensures, ← batch-asked a.g a.key a.part.now a.n)
+    (sym (asked_of f ∙ rw (e.in-Nothing.is, silent)))
 
-pub is-batch-asked-spec : {M : Type 1} → statement M
-is-batch-asked-spec = tie.close (tie.spec (λ c κs. search rules) find-requires (λ c. search rules) (λ c. search rules) (λ c κs. search rules) returns slot-of-requires (λ c κs. search rules) passes-requires returns-2 returns-3)
+pub is_batch_asked_spec : {M : Type 1} → statement M
+is_batch_asked_spec = tie.close (tie.spec (λ c κs. search rules) find-requires (λ c. search rules) (λ c. search rules) (λ c κs. search rules) returns slot-of-requires (λ c κs. search rules) passes-requires returns-2 returns-3)

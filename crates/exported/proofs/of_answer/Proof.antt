@@ -3,14 +3,14 @@ use borrow.Author.Rules.{rules}
 use Rattle.exported.proofs.of_answer.Statement.{statement}
 use Rattle.exported.proofs.of_answer.Tie as tie
 
-returns : tie.Need-returns
-returns c = rw c.before.before.outcome.given.1 c.of-hit.ensures
+returns : tie.Need-returns-in-Found
+returns c = rw c.in-Found.is c.of_hit.ensures
 
-returns-2 : tie.Need-returns-2
-returns-2 c = rw c.before.outcome2.given.1
+returns-2 : tie.Need-returns-in-Absent
+returns-2 c = rw c.in-Absent.is
 
-returns-3 : tie.Need-returns-3
-returns-3 c = rw c.before.before.outcome3.given.1 c.of-refusal.ensures
+returns-3 : tie.Need-returns-in-Refused
+returns-3 c = rw c.in-Refused.is c.of_refusal.ensures
 
-pub of-answer-spec : {M : Type 1} → statement M
-of-answer-spec = tie.close (tie.spec (λ c. search rules) (λ c κs. search rules) (λ c. search rules) (λ c. search rules) (λ c κs. search rules) returns returns-2 returns-3)
+pub of_answer_spec : {M : Type 1} → statement M
+of_answer_spec = tie.close (tie.spec (λ c. search rules) (λ c κs. search rules) (λ c. search rules) (λ c. search rules) (λ c κs. search rules) returns returns-2 returns-3)

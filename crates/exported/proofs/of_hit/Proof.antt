@@ -4,7 +4,7 @@ use Rattle.exported.proofs.of_hit.Statement.{statement}
 use Rattle.exported.proofs.of_hit.Tie as tie
 
 returns : tie.Need-returns
-returns c = rw c.batch-of.ensures
+returns c = rw c.batch_of.ensures
 
-pub of-hit-spec : {M : Type 1} → statement M
-of-hit-spec = tie.close (tie.spec (λ c κs. search rules) returns)
+pub of_hit_spec : {M : Type 1} → statement M
+of_hit_spec = tie.close (tie.spec (λ c κs. search rules) returns)

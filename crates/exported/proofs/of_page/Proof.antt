@@ -7,5 +7,5 @@ use Rattle.exported.proofs.of_page.Tie as tie
 returns : tie.Need-returns
 returns c = refl
 
-pub of-page-spec : {M : Type 1} → statement M
-of-page-spec = tie.close (tie.spec (λ c. search rules) returns)
+pub of_page_spec : {M : Type 1} → statement M
+of_page_spec = tie.close (tie.spec (λ c. search rules) returns)

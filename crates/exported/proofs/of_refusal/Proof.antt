@@ -6,5 +6,5 @@ use Rattle.exported.proofs.of_refusal.Tie as tie
 returns : tie.Need-returns
 returns c = refl
 
-pub of-refusal-spec : {M : Type 1} → statement M
-of-refusal-spec = tie.close (tie.spec returns)
+pub of_refusal_spec : {M : Type 1} → statement M
+of_refusal_spec = tie.close (tie.spec returns)

@@ -3,11 +3,11 @@ use borrow.Author.Rules.{rules}
 use Rattle.exported.proofs.of_text.Statement.{statement}
 use Rattle.exported.proofs.of_text.Tie as tie
 
-returns : tie.Need-returns
-returns c = rw c.before.outcome.given.1
+returns : tie.Need-returns-in-Done
+returns c = rw c.in-Done.is
 
-returns-2 : tie.Need-returns-2
-returns-2 c = rw c.before.before.outcome2.given.1 c.of-refusal.ensures
+returns-2 : tie.Need-returns-in-Refused
+returns-2 c = rw c.in-Refused.is c.of_refusal.ensures
 
-pub of-text-spec : {M : Type 1} → statement M
-of-text-spec = tie.close (tie.spec (λ c. search rules) (λ c. search rules) (λ c. search rules) (λ c κs. search rules) returns returns-2)
+pub of_text_spec : {M : Type 1} → statement M
+of_text_spec = tie.close (tie.spec (λ c. search rules) (λ c. search rules) (λ c. search rules) (λ c κs. search rules) returns returns-2)

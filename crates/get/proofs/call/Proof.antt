@@ -15,25 +15,25 @@ use Rattle.get.proofs.call.Statement.{statement}
 use Rattle.get.proofs.call.Tie as tie
 
 -- the part is the key's partition
-whole : (c : tie.After-part-of-key) → Whole c.before.before.before.args.g c.part-of-key.result.now
-whole c = let s = c.before.before.before in rw c.part-of-key.ensures (key-whole _ _ s.requires.fine s.requires.memory_fits _ (omega arith))
+whole : (c : tie.After-part_of_key-part) → Whole c.args.g c.part_of_key-part.result.now
+whole c = let s = c.before.before.before in rw c.part_of_key-part.ensures (key-whole _ _ s.requires.fine s.requires.memory_fits _ (omega arith))
 
 -- and the test is of it
-tested : (c : tie.After-is-key-overfull) → let a = c.before.before.before.before.args in key_overfull a.g a.key (partition a.g (partition_of a.g a.key) a.memory.now) ≡ c.is-key-overfull.result
-tested c = let a = c.before.before.before.before.args in asked_of (key_overfull a.g a.key) c.is-key-overfull.ensures c.before.part-of-key.ensures
+tested : (c : tie.After-is_key_overfull) → let a = c.args in key_overfull a.g a.key (partition a.g (partition_of a.g a.key) a.memory.now) ≡ c.is_key_overfull.result
+tested c = let a = c.args in asked_of (key_overfull a.g a.key) c.is_key_overfull.ensures c.part_of_key-part.ensures
 
-returns : tie.Need-returns
+returns : tie.Need-returns-then-is_key_overfull
 returns c =
-    let w = c.before.before.before.before.before.requires in
-    refusing _ _ _ (unread 12) (checks-get _ _ w.own w.opens _ ∙ get-12 _ _ _ (tested c.before ∙ c.if1.true))
+    let w = c.requires in
+    refusing _ _ _ (unread 12) (checks-get _ _ w.own w.opens _ ∙ get-12 _ _ _ (tested c.before ∙ c.if-is_key_overfull.true))
 
 lookup-requires : tie.Need-lookup-requires
-lookup-requires c κs = (whole c.before.before, (sym c.before.is-key-overfull.ensures ∙ c.if1.false, c.before.before.before.before.before.requires.flash_fits))
+lookup-requires c κs = (whole c.before.before, (sym c.is_key_overfull.ensures ∙ c.if-is_key_overfull.false, c.requires.flash_fits))
 
-returns-2 : tie.Need-returns-2
+returns-2 : tie.Need-returns
 returns-2 c =
-    let w = c.before.before.before.before.before.before.requires in
-    looking _ _ _ _ (checks-get _ _ w.own w.opens _ ∙ get-passes _ _ _ (tested c.before.before ∙ c.before.if1.false)) (result-get _ _ w.own _) (rw c.before.before.before.part-of-key.ensures at c.lookup.ensures) (effect-get _ _)
+    let w = c.requires in
+    looking _ _ _ _ (checks-get _ _ w.own w.opens _ ∙ get-passes _ _ _ (tested c.before.before ∙ c.if-is_key_overfull.false)) (result-get _ _ w.own _) (rw c.part_of_key-part.ensures at c.lookup.ensures) (effect-get _ _)
 
-pub call-spec : {M : Type 1} → statement M
-call-spec = tie.close (tie.spec (λ c κs. search rules) (λ c κs. whole c) returns lookup-requires returns-2)
+pub call_spec : {M : Type 1} → statement M
+call_spec = tie.close (tie.spec (λ c κs. search rules) (λ c κs. whole c) returns lookup-requires returns-2)

@@ -6,14 +6,14 @@ use Rattle.index.proofs.Stopping.{stops}
 use Rattle.index.proofs.count.Statement.{statement}
 use Rattle.index.proofs.count.Tie as tie
 
-returns : tie.Need-returns
-returns c = stops _ tt _ _ _ c.before.check.ensures c.if1.true refl
+returns : tie.Need-returns-then-number-ne0
+returns c = stops _ tt _ _ _ c.check-number.ensures c.if-number-ne0.true refl
 
-geometry-of-requires : tie.Need-geometry-of-requires
-geometry-of-requires c κs = (opened-areas _ _ (sym c.before.check.ensures ∙ c.if1.false)).long
+geometry-of-requires : tie.Need-geometry_of-g-requires
+geometry-of-requires c κs = (opened-areas _ _ (sym c.check-number.ensures ∙ c.if-number-ne0.false)).long
 
 call-requires : tie.Need-call-requires
-call-requires c κs = opened-table _ _ _ (sym c.before.before.check.ensures ∙ c.before.if1.false) c.geometry-of.ensures
+call-requires c κs = opened-table _ _ _ (sym c.check-number.ensures ∙ c.if-number-ne0.false) c.geometry_of-g.ensures
 
 pub count_spec : {M : Type 1} → statement M
 count_spec = tie.close (tie.spec (λ c κs. tt) returns geometry-of-requires call-requires (λ c. search rules))

@@ -6,14 +6,14 @@ use Rattle.index.proofs.Stopping.{stops}
 use Rattle.index.proofs.del.Statement.{statement}
 use Rattle.index.proofs.del.Tie as tie
 
-returns : tie.Need-returns
-returns c = stops _ tt _ _ _ c.before.check.ensures c.if1.true refl
+returns : tie.Need-returns-then-number-ne0
+returns c = stops _ tt _ _ _ c.check-number.ensures c.if-number-ne0.true refl
 
-geometry-of-requires : tie.Need-geometry-of-requires
-geometry-of-requires c κs = (opened-areas _ _ (sym c.before.before.check.ensures ∙ c.before.if1.false)).long
+geometry-of-requires : tie.Need-geometry_of-g-requires
+geometry-of-requires c κs = (opened-areas _ _ (sym c.check-number.ensures ∙ c.if-number-ne0.false)).long
 
 call-requires : tie.Need-call-requires
-call-requires c κs = opened-table _ _ _ (sym c.before.before.before.before.check.ensures ∙ c.before.before.before.if1.false) c.before.geometry-of.ensures
+call-requires c κs = opened-table _ _ _ (sym c.check-number.ensures ∙ c.if-number-ne0.false) c.geometry_of-g.ensures
 
-pub del-spec : {M : Type 1} → statement M
-del-spec = tie.close (tie.spec (λ c κs. tt) (λ c. search rules) returns geometry-of-requires call-requires (λ c. search rules) (λ c. search rules))
+pub del_spec : {M : Type 1} → statement M
+del_spec = tie.close (tie.spec (λ c κs. tt) (λ c. search rules) returns geometry-of-requires call-requires (λ c. search rules) (λ c. search rules))

@@ -7,16 +7,16 @@ use Rattle.index.proofs.Stopping.{stops}
 use Rattle.index.proofs.text.Statement.{statement}
 use Rattle.index.proofs.text.Tie as tie
 
-returns : tie.Need-returns
+returns : tie.Need-returns-then-number-ne0
 returns c =
-    let stopped = stops _ tt _ _ _ c.before.check.ensures c.if1.true refl in
+    let stopped = stops _ tt _ _ _ c.check-number.ensures c.if-number-ne0.true refl in
     (stopped, sym (text-unwritten _ _ _ _ _ (sym stopped.answers)))
 
-geometry-of-requires : tie.Need-geometry-of-requires
-geometry-of-requires c κs = (opened-areas _ _ (sym c.before.check.ensures ∙ c.if1.false)).long
+geometry-of-requires : tie.Need-geometry_of-g-requires
+geometry-of-requires c κs = (opened-areas _ _ (sym c.check-number.ensures ∙ c.if-number-ne0.false)).long
 
 call-requires : tie.Need-call-requires
-call-requires c κs = opened-table _ _ _ (sym c.before.before.before.check.ensures ∙ c.before.before.if1.false) c.before.geometry-of.ensures
+call-requires c κs = opened-table _ _ _ (sym c.check-number.ensures ∙ c.if-number-ne0.false) c.geometry_of-g.ensures
 
-pub text-spec : {M : Type 1} → statement M
-text-spec = tie.close (tie.spec (λ c κs. tt) returns geometry-of-requires call-requires (λ c. search rules) (λ c. search rules))
+pub text_spec : {M : Type 1} → statement M
+text_spec = tie.close (tie.spec (λ c κs. tt) returns geometry-of-requires call-requires (λ c. search rules) (λ c. search rules))

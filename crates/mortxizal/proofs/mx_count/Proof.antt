@@ -5,7 +5,7 @@ use Rattle.mortxizal.proofs.mx_count.Statement.{statement}
 use Rattle.mortxizal.proofs.mx_count.Tie as tie
 
 returns : tie.Need-returns
-returns c = exporting _ _ _ _ _ _ _ c.before.count.ensures c.of-written.ensures
+returns c = exporting _ _ _ _ _ _ _ c.count.ensures c.of_written.ensures
 
-pub mx-count-spec : {M : Type 1} → statement M
-mx-count-spec = tie.close (tie.spec (λ c κs. search rules) (λ c κs. search rules) returns)
+pub mx_count_spec : {M : Type 1} → statement M
+mx_count_spec = tie.close (tie.spec (λ c κs. search rules) (λ c κs. search rules) returns)

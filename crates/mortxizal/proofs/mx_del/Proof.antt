@@ -5,7 +5,7 @@ use Rattle.mortxizal.proofs.mx_del.Statement.{statement}
 use Rattle.mortxizal.proofs.mx_del.Tie as tie
 
 returns : tie.Need-returns
-returns c = exporting _ _ _ _ _ _ _ c.before.before.before.del.ensures c.of-written.ensures
+returns c = exporting _ _ _ _ _ _ _ c.del.ensures c.of_written.ensures
 
-pub mx-del-spec : {M : Type 1} → statement M
-mx-del-spec = tie.close (tie.spec (λ c κs. search rules) (λ c κs. search rules) (λ c. search rules) returns)
+pub mx_del_spec : {M : Type 1} → statement M
+mx_del_spec = tie.close (tie.spec (λ c κs. search rules) (λ c κs. search rules) (λ c. search rules) returns)

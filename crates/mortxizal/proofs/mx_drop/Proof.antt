@@ -5,7 +5,7 @@ use Rattle.mortxizal.proofs.mx_drop.Statement.{statement}
 use Rattle.mortxizal.proofs.mx_drop.Tie as tie
 
 returns : tie.Need-returns
-returns c = exporting _ _ _ _ _ _ _ c.before.before.before.drop.ensures c.of-written.ensures
+returns c = exporting _ _ _ _ _ _ _ c.drop.ensures c.of_written.ensures
 
-pub mx-drop-spec : {M : Type 1} → statement M
-mx-drop-spec = tie.close (tie.spec (λ c κs. search rules) (λ c κs. search rules) (λ c. search rules) returns)
+pub mx_drop_spec : {M : Type 1} → statement M
+mx_drop_spec = tie.close (tie.spec (λ c κs. search rules) (λ c κs. search rules) (λ c. search rules) returns)

@@ -6,7 +6,7 @@ use Rattle.mortxizal.proofs.mx_figures.Statement.{statement}
 use Rattle.mortxizal.proofs.mx_figures.Tie as tie
 
 returns : tie.Need-returns
-returns c = rw c.before.before.numbers.ensures at (c.of-figures.ensures ∙ ap exported_card c.before.figures.ensures)
+returns c = rw c.numbers-g.ensures at (c.of_figures.ensures ∙ ap exported_card c.figures.ensures)
 
-pub mx-figures-spec : {M : Type 1} → statement M
-mx-figures-spec = tie.close (tie.spec (λ c κs. search rules) (λ c κs. search rules) (λ c κs. search rules) returns)
+pub mx_figures_spec : {M : Type 1} → statement M
+mx_figures_spec = tie.close (tie.spec (λ c κs. search rules) (λ c κs. search rules) (λ c κs. search rules) returns)

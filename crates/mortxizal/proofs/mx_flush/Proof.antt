@@ -5,7 +5,7 @@ use Rattle.mortxizal.proofs.mx_flush.Statement.{statement}
 use Rattle.mortxizal.proofs.mx_flush.Tie as tie
 
 returns : tie.Need-returns
-returns c = exporting _ _ _ _ _ _ _ c.before.before.before.before.before.flush.ensures c.of-written.ensures
+returns c = exporting _ _ _ _ _ _ _ c.flush.ensures c.of_written.ensures
 
-pub mx-flush-spec : {M : Type 1} → statement M
-mx-flush-spec = tie.close (tie.spec (λ c κs. search rules) (λ c κs. search rules) (λ c. search rules) (λ c. search rules) returns)
+pub mx_flush_spec : {M : Type 1} → statement M
+mx_flush_spec = tie.close (tie.spec (λ c κs. search rules) (λ c κs. search rules) (λ c. search rules) (λ c. search rules) returns)

@@ -5,7 +5,7 @@ use Rattle.mortxizal.proofs.mx_format.Statement.{statement}
 use Rattle.mortxizal.proofs.mx_format.Tie as tie
 
 returns : tie.Need-returns
-returns c = rw c.before.before.before.before.before.numbers.ensures at (exporting _ _ _ _ _ _ _ c.before.before.before.format.ensures c.of-written.ensures)
+returns c = rw c.numbers-g.ensures at (exporting _ _ _ _ _ _ _ c.format.ensures c.of_written.ensures)
 
-pub mx-format-spec : {M : Type 1} → statement M
-mx-format-spec = tie.close (tie.spec (λ c κs. search rules) (λ c κs. search rules) (λ c κs. search rules) (λ c. search rules) returns)
+pub mx_format_spec : {M : Type 1} → statement M
+mx_format_spec = tie.close (tie.spec (λ c κs. search rules) (λ c κs. search rules) (λ c κs. search rules) (λ c. search rules) returns)

@@ -6,8 +6,8 @@ use Rattle.mortxizal.proofs.mx_text.Tie as tie
 
 returns : tie.Need-returns
 returns c =
-    let done = c.before.before.before.text.ensures in
-    record { exports = exporting _ _ _ _ _ _ _ done.0 c.of-text.ensures; writes = done.1 }
+    let done = c.text.ensures in
+    record { exports = exporting _ _ _ _ _ _ _ done.0 c.of_text.ensures; writes = done.1 }
 
-pub mx-text-spec : {M : Type 1} → statement M
-mx-text-spec = tie.close (tie.spec (λ c κs. search rules) (λ c κs. search rules) (λ c. search rules) returns)
+pub mx_text_spec : {M : Type 1} → statement M
+mx_text_spec = tie.close (tie.spec (λ c κs. search rules) (λ c κs. search rules) (λ c. search rules) returns)

@@ -21,10 +21,10 @@ use Rattle.text.proofs.call.Statement.{statement}
 use Rattle.text.proofs.call.Tie as tie
 
 -- behind the test for 4
-below : (c : tie.Else1) → let a = c.before.before.before.before.before.args in a.t < partitions a.g
+below : (c : tie.Else-partition_count-t) → let a = c.args in a.t < partitions a.g
 below c = omega arith
 
-returns : tie.Need-returns
+returns : tie.Need-returns-then-partition_count-t
 returns c =
     let s = c.before.before.before.before.before.before in
     let a = s.args in
@@ -33,44 +33,44 @@ returns c =
     (p, sym (text-unwritten (areas a.memory.now a.flash.now) a.t a.text.now 4 0 (sym p.answers ∙ c.refused.ensures)))
 
 decide-requires : tie.Need-decide-requires
-decide-requires c κs = let s = c.before.before.before.before.before.before in rw c.part_of.ensures (partition-whole _ _ s.requires.fine s.requires.memory_fits _ (below c.before), (s.requires.flash_fits, below c.before))
+decide-requires c κs = let s = c.before.before.before.before.before.before in rw c.part_of-part.ensures (partition-whole _ _ s.requires.fine s.requires.memory_fits _ (below c.before), (s.requires.flash_fits, below c.before))
 
 -- the checks are those of the partition
-decided : (c : tie.After-decide) → let a = c.before.before.before.before.before.before.before.args in let p = partition a.g a.t a.memory.now in
+decided : (c : tie.After-decide) → let a = c.args in let p = partition a.g a.t a.memory.now in
     written c.decide.result ≡ reply_if (text_checks a.g a.t (length a.text.now) p a.flash.now) (done (length (partition_text a.g a.t p a.flash.now)))
-decided c = rw (← c.before.part_of.ensures) c.decide.ensures
+decided c = rw (← c.part_of-part.ensures) c.decide.ensures
 
 -- nothing refuses what is told to be done, so it is readable and has room
-passed : (c : tie.After-decide) (n : ℕ) → c.decide.result ≡ Done n → let a = c.before.before.before.before.before.before.before.args in text_checks a.g a.t (length a.text.now) (partition a.g a.t a.memory.now) a.flash.now ≡ none
+passed : (c : tie.After-decide) (n : ℕ) → c.decide.result ≡ Done n → let a = c.args in text_checks a.g a.t (length a.text.now) (partition a.g a.t a.memory.now) a.flash.now ≡ none
 passed c n e = none-refuses _ _ n (sym (decided c) ∙ ap written e)
 
 write-requires : tie.Need-write-requires
 write-requires c κs =
-    let d = c.before.before.before.before in
+    let d = c.before.before in
     let s = d.before.before.before.before.before.before.before in
     let a = s.args in
     let l = below d.before.before in
-    let r = readable a.g a.t (length a.text.now) (partition a.g a.t a.memory.now) a.flash.now (partition-whole _ _ s.requires.fine s.requires.memory_fits _ l) s.requires.flash_fits l (passed d _ c.before.before.length.given.1) in
-    rw d.before.part_of.ensures r
+    let r = readable a.g a.t (length a.text.now) (partition a.g a.t a.memory.now) a.flash.now (partition-whole _ _ s.requires.fine s.requires.memory_fits _ l) s.requires.flash_fits l (passed d _ c.in-Done.is) in
+    rw d.part_of-part.ensures r
 
-returns-2 : tie.Need-returns-2
+returns-2 : tie.Need-returns-in-Refused
 returns-2 c =
-    let d = c.before.before.before in
+    let d = c.before in
     let s = d.before.before.before.before.before.before.before in
     let a = s.args in
-    let p = performs a.g a.memory.now a.flash.now s.requires a.t (length a.text.now) _ (sym (ap written c.before.refusal.given.1) ∙ decided d) in
+    let p = performs a.g a.memory.now a.flash.now s.requires a.t (length a.text.now) _ (sym (ap written c.in-Refused.is) ∙ decided d) in
     (p, sym (text-unwritten (areas a.memory.now a.flash.now) a.t a.text.now _ _ (sym p.answers)))
 
-returns-3 : tie.Need-returns-3
+returns-3 : tie.Need-returns-in-Done
 returns-3 c =
-    let d = c.before.before.before.before.before.before.before in
+    let d = c.before.before.before.before.before in
     let s = d.before.before.before.before.before.before.before in
     let a = s.args in
-    let e = c.before.before.before.before.before.length.given.1 in
+    let e = c.in-Done.is in
     let told = sym (ap written e) ∙ decided d in
     let p = performs a.g a.memory.now a.flash.now s.requires a.t (length a.text.now) _ told in
     let reply = sym p.answers ∙ told ∙ ap (λ (o : Option Refusal). reply_if o (done (length (partition_text a.g a.t (partition a.g a.t a.memory.now) a.flash.now)))) (passed d _ e) in
-    (p, rw (text-written (areas a.memory.now a.flash.now) a.g s.requires.own a.t a.text.now reply, ← d.before.part_of.ensures) c.before.before.write.ensures)
+    (p, rw (text-written (areas a.memory.now a.flash.now) a.g s.requires.own a.t a.text.now reply, ← d.part_of-part.ensures) c.write.ensures)
 
-pub call-spec : {M : Type 1} → statement M
-call-spec = tie.close (tie.spec (λ c κs. search rules) (λ c κs. search rules) returns (λ c κs. search rules) decide-requires (λ c. search rules) (λ c. search rules) write-requires returns-2 (λ c. search rules) returns-3)
+pub call_spec : {M : Type 1} → statement M
+call_spec = tie.close (tie.spec (λ c κs. search rules) (λ c κs. search rules) returns (λ c κs. search rules) decide-requires (λ c. search rules) (λ c. search rules) write-requires returns-2 (λ c. search rules) returns-3)
