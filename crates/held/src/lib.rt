@@ -4,7 +4,7 @@
 ghost use Rattle.std.specs.Prelude.{◌≡◌, ◌<◌, length, take};
 ghost use Rattle.held.specs.Held.{Held, AtStart, got_of};
 
-use libc::STDIN_FILENO;
+use std::io::Read;
 
 // The unfinished line that is held between two reads: input[at..end].
 #[derive(Clone, Copy)]
@@ -30,12 +30,15 @@ pub fn hold(input: &mut [u8], rest: Rest) -> usize
     lines::keep_rest(&mut input[..end], rest.at)
 }
 
-// Reads once, behind the bytes that are held.
-pub fn read_behind(input: &mut [u8], held: usize) -> isize
+// Reads once, behind the bytes that are held; tells how many bytes came, or a number below 0 where the read failed.
+pub fn read_behind(stdin: &mut impl Read, input: &mut [u8], held: usize) -> isize
     requires { held < length input.old }
     ensures { take held input.new ≡ take held input.old }
 {
-    libc::read(STDIN_FILENO, &mut input[held..])
+    match stdin.read(&mut input[held..]) {
+        Ok(count) => count as isize,
+        Err(_) => -1,
+    }
 }
 
 // What a read's answer means, of the free room that it was handed.

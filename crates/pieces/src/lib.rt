@@ -9,7 +9,6 @@ ghost use Rattle.held.specs.Held.{Within};
 ghost use Rattle.pieces.specs.Pieces.{WentOn, RanLast, MadeOf};
 
 use held::{Got, Rest};
-use libc::STDOUT_FILENO;
 use session::Printed;
 
 // Where an unfinished line begins; or a write failed, and the session is over.
@@ -28,7 +27,13 @@ pub enum Next {
 }
 
 // Runs the whole lines and writes their answers, again where the room for these ends early; tells where an unfinished line begins.
-fn run_whole(memory: &mut [u8], flash: &mut [u8], input: &[u8], out: &mut [u8]) -> Step
+fn run_whole(
+    stdout: &impl Print,
+    memory: &mut [u8],
+    flash: &mut [u8],
+    input: &[u8],
+    out: &mut [u8],
+) -> Step
     requires { room ≤ length out.old }
     ensures { WentOn result input.now (areas memory.old flash.old) (areas memory.new flash.new) }
 {
@@ -39,7 +44,7 @@ fn run_whole(memory: &mut [u8], flash: &mut [u8], input: &[u8], out: &mut [u8]) 
             break;
         }
         let printed = run.printed;
-        if !io::write_all(STDOUT_FILENO, &out[..printed]) {
+        if stdout.write_all(&out[..printed]).is_err() {
             return Step::Failed;
         }
         taken += run.taken;
@@ -48,7 +53,13 @@ fn run_whole(memory: &mut [u8], flash: &mut [u8], input: &[u8], out: &mut [u8]) 
 }
 
 // A last line that the end of input ends.
-fn run_last(memory: &mut [u8], flash: &mut [u8], line: &[u8], out: &mut [u8])
+fn run_last(
+    stdout: &impl Print,
+    memory: &mut [u8],
+    flash: &mut [u8],
+    line: &[u8],
+    out: &mut [u8],
+)
     requires room_in_bounds { room ≤ length out.old }
     requires unended { Unended 0 line.now }
     ensures { RanLast line.now (areas memory.old flash.old) out.old out.new (areas memory.new flash.new) }
@@ -59,11 +70,12 @@ fn run_last(memory: &mut [u8], flash: &mut [u8], line: &[u8], out: &mut [u8])
     let Printed::Until(end) = session::apply_line(memory, flash, line, out, 0) else {
         return;
     };
-    io::write_all(STDOUT_FILENO, &out[..end]);
+    let _ = stdout.write_all(&out[..end]);
 }
 
 // Goes on from what was read behind the bytes that are held; tells where the next unfinished line stands.
 pub fn run_piece(
+    stdout: &impl Print,
     memory: &mut [u8],
     flash: &mut [u8],
     input: &[u8],
@@ -80,12 +92,12 @@ pub fn run_piece(
     match got {
         Got::Failure => Next::Failed,
         Got::End => {
-            run_last(memory, flash, &input[..held], out);
+            run_last(stdout, memory, flash, &input[..held], out);
             Next::Ended
         }
         Got::Bytes(count) => {
             let end = held + count;
-            let Step::Until(at) = run_whole(memory, flash, &input[..end], out) else {
+            let Step::Until(at) = run_whole(stdout, memory, flash, &input[..end], out) else {
                 return Next::Failed;
             };
             Next::On(Rest { at, end })

@@ -12,6 +12,7 @@ ghost use Rattle.relay_session.specs.Session.{IsSession};
 
 use held::{Rest, got_of, hold, read_behind};
 use pieces::{Next, run_piece};
+use std::io::Read;
 
 // One of the two areas.
 fn area() -> [u8; 32768]
@@ -23,6 +24,7 @@ fn area() -> [u8; 32768]
 
 // Goes on from the answer of a read behind the unfinished line that is held. There was free room, so an answer of 0 is the end of input.
 fn turn(
+    stdout: &impl Print,
     memory: &mut [u8],
     flash: &mut [u8],
     input: &[u8],
@@ -36,11 +38,18 @@ fn turn(
     ensures { MadeOf (got_of answer (length input.now - held)) result held input.now (areas memory.old flash.old) out.old out.new (areas memory.new flash.new) }
 {
     let got = got_of(answer, &input[held..]);
-    run_piece(memory, flash, input, held, got, out)
+    run_piece(stdout, memory, flash, input, held, got, out)
 }
 
 // Nothing says that input ends, so turns are counted down from a number that no run uses up.
-fn run(memory: &mut [u8], flash: &mut [u8], input: &mut [u8], out: &mut [u8])
+fn run(
+    stdin: &mut impl Read,
+    stdout: &impl Print,
+    memory: &mut [u8],
+    flash: &mut [u8],
+    input: &mut [u8],
+    out: &mut [u8],
+)
     requires memory_value { memory.old ≡ zero_area }
     requires flash_value { flash.old ≡ zero_area }
     requires longest_in_bounds { longest < length input.old }
@@ -51,8 +60,8 @@ fn run(memory: &mut [u8], flash: &mut [u8], input: &mut [u8], out: &mut [u8])
     let mut turns = u64::MAX;
     while turns > 0 {
         let held = hold(input, rest);
-        let answer = read_behind(input, held);
-        match turn(memory, flash, input, held, answer, out) {
+        let answer = read_behind(stdin, input, held);
+        match turn(stdout, memory, flash, input, held, answer, out) {
             Next::On(next) => rest = next,
             Next::Ended => return,
             Next::Failed => return,
@@ -61,10 +70,17 @@ fn run(memory: &mut [u8], flash: &mut [u8], input: &mut [u8], out: &mut [u8])
     }
 }
 
-fn main() {
+fn main(rt: HostRuntime) {
     let mut memory = area();
     let mut flash = area();
     let mut input = io::large_buffer();
     let mut out = io::large_buffer();
-    run(&mut memory, &mut flash, &mut input, &mut out);
+    run(
+        &mut rt.stdin(),
+        &rt,
+        &mut memory,
+        &mut flash,
+        &mut input,
+        &mut out,
+    );
 }

@@ -2,7 +2,6 @@
 use mathlib.Core.Bool.{true}
 use mathlib.Core.Path.{◌≡◌, sym, ◌∙◌}
 use borrow.Author.Rules.{rules}
-use borrow.Author.Tests.{not-true, not-false}
 use Rattle.model.specs.Geometry.{allowed}
 use Rattle.model.specs.Card.{figured}
 use Rattle.card.proofs.figures.Statement.{statement}

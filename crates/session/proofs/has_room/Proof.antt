@@ -20,11 +20,11 @@ added at n h =
 lacking : (at n : ℕ) → n < room → leb room n ≡ leb (at + room) n
 lacking at n l = rw (lt-leb room n l, lt-leb (at + room) n (omega arith))
 
-returns : tie.Need-returns
-returns c = added _ _ c.if1.true
+returns : tie.Need-returns-then-out-ge-ROOM
+returns c = added _ _ c.if-out-ge-ROOM.true
 
-returns-2 : tie.Need-returns-2
-returns-2 c = lacking _ _ c.if1.false
+returns-2 : tie.Need-returns-else-out-ge-ROOM
+returns-2 c = lacking _ _ c.if-out-ge-ROOM.false
 
-pub has-room-spec : {M : Type 1} → statement M
-has-room-spec = tie.close (tie.spec (λ c. search rules) returns returns-2)
+pub has_room_spec : {M : Type 1} → statement M
+has_room_spec = tie.close (tie.spec (λ c. search rules) returns returns-2)

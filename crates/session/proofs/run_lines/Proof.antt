@@ -15,7 +15,7 @@ use Rattle.session.proofs.Taking.{Goes, goes_none, goes-full, goes-all, goes-mor
 use Rattle.session.proofs.run_lines.Statement.{statement}
 use Rattle.session.proofs.run_lines.Tie as tie
 
-abbrev invariant-loop : tie.invariant-loop
+abbrev invariant-loop : tie.invariant-loop-end
 invariant-loop memory₀ flash₀ input out₀ taken₀ printed₀ memory flash out taken printed =
     (taken ≤ length input)
     × (length memory ≡ length memory₀)
@@ -25,29 +25,29 @@ invariant-loop memory₀ flash₀ input out₀ taken₀ printed₀ memory flash 
     × Ran (take taken input) (areas memory₀ flash₀) out₀ printed out (areas memory flash)
     × Goes (taken_of (ended_lines input) (areas memory₀ flash₀) (length out₀)) input taken (areas memory flash) (length out₀) printed
 
-abbrev decreases-loop : tie.decreases-loop
+abbrev decreases-loop : tie.decreases-loop-end
 decreases-loop memory₀ flash₀ input out₀ taken₀ printed₀ memory flash out taken printed = length input - taken
 
-loop-holds : tie.Need-loop-init invariant-loop decreases-loop
+loop-holds : tie.Need-loop-end-init invariant-loop decreases-loop
 loop-holds c = (omega arith, refl, refl, refl, whole-none, ran-none _ _, goes_none _ _ _)
 
 -- where the loop goes on there is room, and else there is not
-enough : (c : tie.Then1 invariant-loop decreases-loop) → c.before.before.before.loop.printed + room ≤ length c.before.before.before.loop.out
-enough c = leb-true _ _ (sym c.before.has_room.ensures ∙ c.if1.true)
+enough : (c : tie.In-loop-end invariant-loop decreases-loop) → c.loop-end.printed + room ≤ length c.loop-end.out
+enough c = leb-true _ _ (sym c.has_room.ensures ∙ c.loop-end-test.true)
 
-full : (c : tie.Else1 invariant-loop decreases-loop) → length c.before.before.before.loop.out < c.before.before.before.loop.printed + room
-full c = leb-false _ _ (sym c.before.has_room.ensures ∙ c.if1.false)
+full : (c : tie.After-loop-end invariant-loop decreases-loop) → length c.loop-end.out < c.loop-end.printed + room
+full c = leb-false _ _ (sym c.has_room.ensures ∙ c.loop-end-test.false)
 
-perform-requires : tie.Need-perform-requires invariant-loop decreases-loop
+perform-requires : tie.Need-perform-printed-requires invariant-loop decreases-loop
 perform-requires c κs = enough c.before.before.before.before.before.before
 
-loop-again : tie.Need-loop-preserved invariant-loop decreases-loop
+loop-again : tie.Need-loop-end-preserved invariant-loop decreases-loop
 loop-again c =
     let done = c.before.before.before.before.before.before in
     let ended = done.before.before.before.before.before.before in
-    let i = ended.before.before.before.before.loop.invariant in
-    let e = ended.line-end.ensures in
-    let p = done.perform.ensures in (
+    let i = ended.loop-end.invariant in
+    let e = ended.line_end-end.ensures in
+    let p = done.perform-printed.ensures in (
       omega arith,
       omega arith,
       omega arith,
@@ -57,21 +57,21 @@ loop-again c =
       goes-more i.6 _ e (omega arith) (omega (arith, enough ended.before)) p,
     )
 
-returns : tie.Need-returns invariant-loop decreases-loop
+returns : tie.Need-returns-after-loop-end invariant-loop decreases-loop
 returns c =
-    let i = c.before.before.before.loop.invariant in (
+    let i = c.loop-end.invariant in (
       record { exactly = goes-full i.6 (omega (arith, full c)); within = i.0; whole = i.4; all = λ h. absurd (omega (arith, h, full c)) },
       i.5,
     )
 
-returns-2 : tie.Need-returns-2 invariant-loop decreases-loop
+returns-2 : tie.Need-returns-then-end-input invariant-loop decreases-loop
 returns-2 c =
-    let i = c.before.before.before.before.before.loop.invariant in
-    let u = unended-last _ _ _ c.before.line-end.ensures (omega arith) in
+    let i = c.loop-end.invariant in
+    let u = unended-last _ _ _ c.line_end-end.ensures (omega arith) in
     (record { exactly = goes-all i.6 u; within = i.0; whole = i.4; all = λ h. u }, i.5)
 
-pub run-lines-spec : {M : Type 1} → statement M
-run-lines-spec =
+pub run_lines_spec : {M : Type 1} → statement M
+run_lines_spec =
     tie.close
     (tie.spec invariant-loop decreases-loop loop-holds (λ c κs. search rules) (λ c κs. omega arith)
     (λ c. omega arith) (λ c. omega arith) (λ c. omega arith) perform-requires (λ c. omega arith) (λ c. omega arith) loop-again
