@@ -1,7 +1,6 @@
 // What the calls answer. specs/Told.antt gives the paper's number and values for each case.
 #![tactic(auto)]
 
-
 // A refusal: its number, and the pages read before it.
 #[derive(Clone, Copy)]
 pub struct Refusal {
