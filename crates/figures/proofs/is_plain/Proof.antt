@@ -2,7 +2,6 @@
 use native.Mathlib.Omega.{arith}
 use mathlib.Core.Path.{◌≡◌, sym, ◌∙◌}
 use mathlib.Core.Bool.{true}
-use borrow.Author.Tests.{not-true, not-false}
 use Rattle.figures.specs.Places.{figure_at}
 use Rattle.figures.proofs.Reading.{figure-here, leading-none, plain_more, plain-zero}
 use borrow.Author.Rules.{rules}

@@ -1,6 +1,5 @@
 -- The loop's invariant: the figures from `at` on say what those from `i` on say behind n, and end where those end. A number only grows by figures behind it, so one that passes `most` stays above it.
 use mathlib.Core.Bool.{true}
-use borrow.Author.Tests.{not-true, not-false}
 use Rattle.figures.specs.Places.{figure_at}
 use Prim.Native.Nat.{◌-◌, ◌≤◌}
 use native.Mathlib.Omega.{arith}

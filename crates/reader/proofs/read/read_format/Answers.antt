@@ -1,5 +1,5 @@
 -- Seven numbers: three, three and one, each over what those before it left.
-use Rattle.std.proofs.Common.{ℕ, ◌≡◌, sym, ◌∙◌, List, drop}
+use Rattle.std.proofs.Common.{ℕ, sym, ◌∙◌, List, drop}
 use Rattle.std.proofs.Math.Option.{Option}
 use Rattle.model.specs.Geometry.{geometry}
 use Rattle.model.specs.Text.{text}
