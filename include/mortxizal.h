@@ -20,9 +20,9 @@
  * which holds the buffers, filters and lists of deleted keys, and flash, which
  * holds the batches. mx_figures and mx_interface alone are asked without them. The
  * library keeps nothing of its own, allocates nothing and never fails but by a
- * refusal in its answer. Link target/staticlib/libmortxizal.a, which `rt staticlib
- * mortxizal` proves and writes for x86-64 Linux; it needs the C library's memmove
- * and memset alone.
+ * refusal in its answer. Link target/staticlib/libmortxizal.a, which `./library`
+ * proves and writes for x86-64 Linux; it needs the C library's memmove and memset
+ * alone.
  *
  * Every call is proved, on areas of any length and content, to answer and to
  * leave exactly what documents 01 and 02 say. A refused call has changed no

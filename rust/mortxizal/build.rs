@@ -1,4 +1,4 @@
-//! Links the proved library that `rt staticlib mortxizal` writes.
+//! Links the proved library that `./library` writes.
 
 use std::env;
 use std::path::Path;
@@ -14,7 +14,7 @@ fn main() {
         );
     }
     if !archive.is_file() {
-        println!("cargo::error=target/staticlib/libmortxizal.a is missing: run `rt staticlib mortxizal` first");
+        println!("cargo::error=target/staticlib/libmortxizal.a is missing: run `./library` first");
     }
     println!("cargo::rustc-link-search=native={}", folder.display());
     println!("cargo::rustc-link-lib=static=mortxizal");

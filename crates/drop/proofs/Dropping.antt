@@ -1,5 +1,5 @@
 -- What the partition is after a drop, from the numbers that the head held.
-use Prim.Native.Nat.{ℕ, ◌-◌}
+use Prim.Native.Nat.{ℕ}
 use mathlib.Core.List.{List}
 use mathlib.Core.Path.{◌≡◌, ◌∙◌}
 use Rattle.model.specs.declared.Geometry.{Geometry}

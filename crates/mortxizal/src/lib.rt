@@ -1,4 +1,4 @@
-// The nine calls for C, a card's figures and the interface's own number: numbers, and areas as pointer and length. include/mortxizal.h declares them.
+// The nine calls for C, a card's figures and the interface's own number: numbers, and areas as pointer and length. include/mortxizal.h declares them, and crates/mortxizal_c exports them.
 #![tactic(auto)]
 
 ghost use Rattle.std.specs.Prelude.{◌≡◌};
@@ -15,8 +15,7 @@ use model::Geometry;
 const INTERFACE: u32 = 8;
 
 // Which interface this library has, for a program that was compiled with some header.
-#[unsafe(no_mangle)]
-pub extern "C" fn mx_interface() -> u32
+pub fn mx_interface() -> u32
     ensures { result ≡ 8 }
 {
     INTERFACE
@@ -37,8 +36,7 @@ fn numbers(s: u32, page: u32, pages: u32, kept: u32, bits: u32, hashes: u32, lis
     }
 }
 
-#[unsafe(no_mangle)]
-pub extern "C" fn mx_format(
+pub fn mx_format(
     memory: &mut [u8],
     flash: &[u8],
     s: u32,
@@ -55,36 +53,31 @@ pub extern "C" fn mx_format(
     of_written(index::format(memory, flash, g))
 }
 
-#[unsafe(no_mangle)]
-pub extern "C" fn mx_put(memory: &mut [u8], flash: &mut [u8], key: u64, value: u64) -> MxAnswer
+pub fn mx_put(memory: &mut [u8], flash: &mut [u8], key: u64, value: u64) -> MxAnswer
     ensures { Exports (Call.put key value) memory.old flash.old result memory.new flash.new }
 {
     of_written(index::put(memory, flash, key, value))
 }
 
-#[unsafe(no_mangle)]
-pub extern "C" fn mx_get(memory: &[u8], flash: &[u8], key: u64) -> MxAnswer
+pub fn mx_get(memory: &[u8], flash: &[u8], key: u64) -> MxAnswer
     ensures { Exports (Call.get key) memory.now flash.now result memory.now flash.now }
 {
     of_answer(index::get(memory, flash, key))
 }
 
-#[unsafe(no_mangle)]
-pub extern "C" fn mx_del(memory: &mut [u8], flash: &[u8], key: u64) -> MxAnswer
+pub fn mx_del(memory: &mut [u8], flash: &[u8], key: u64) -> MxAnswer
     ensures { Exports (Call.del key) memory.old flash.now result memory.new flash.now }
 {
     of_written(index::del(memory, flash, key))
 }
 
-#[unsafe(no_mangle)]
-pub extern "C" fn mx_flush(memory: &mut [u8], flash: &mut [u8], partition: u32) -> MxAnswer
+pub fn mx_flush(memory: &mut [u8], flash: &mut [u8], partition: u32) -> MxAnswer
     ensures { Exports (Call.flush partition) memory.old flash.old result memory.new flash.new }
 {
     of_written(index::flush(memory, flash, partition))
 }
 
-#[unsafe(no_mangle)]
-pub extern "C" fn mx_view(
+pub fn mx_view(
     memory: &[u8],
     flash: &[u8],
     partition: u32,
@@ -96,15 +89,13 @@ pub extern "C" fn mx_view(
     of_viewed(index::view_outcome(memory, flash, partition, page, flush))
 }
 
-#[unsafe(no_mangle)]
-pub extern "C" fn mx_count(memory: &[u8], flash: &[u8], partition: u32) -> MxAnswer
+pub fn mx_count(memory: &[u8], flash: &[u8], partition: u32) -> MxAnswer
     ensures { Exports (Call.count partition) memory.now flash.now result memory.now flash.now }
 {
     of_written(index::count(memory, flash, partition))
 }
 
-#[unsafe(no_mangle)]
-pub extern "C" fn mx_text<'a>(
+pub fn mx_text<'a>(
     memory: &'a [u8],
     flash: &'a [u8],
     partition: u32,
@@ -115,15 +106,13 @@ pub extern "C" fn mx_text<'a>(
     of_text(index::text(memory, flash, partition, text))
 }
 
-#[unsafe(no_mangle)]
-pub extern "C" fn mx_drop(memory: &mut [u8], flash: &[u8], partition: u32) -> MxAnswer
+pub fn mx_drop(memory: &mut [u8], flash: &[u8], partition: u32) -> MxAnswer
     ensures { Exports (Call.drop partition) memory.old flash.now result memory.new flash.now }
 {
     of_written(index::drop(memory, flash, partition))
 }
 
-#[unsafe(no_mangle)]
-pub extern "C" fn mx_figures(
+pub fn mx_figures(
     s: u32,
     page: u32,
     pages: u32,

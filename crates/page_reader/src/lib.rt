@@ -1,4 +1,4 @@
-// A reader lent one page, which gives its entries in turn. It is a struct that holds a reference: what takes or makes one is proved by hand, and the work is done by `step_at`.
+// A reader lent one page, which gives its entries in turn. It is a struct that holds a reference; the work is done by `step_at`.
 #![tactic(auto)]
 
 ghost use Rattle.std.specs.Prelude.{◌≡◌, ◌+◌, ◌*◌, ◌≤◌, length};

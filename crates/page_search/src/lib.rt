@@ -1,4 +1,4 @@
-// The search of a page, with a tally of what a get costs: it is lent to each search and grows with it. What takes or lends the tally is proved by hand, and the work is done by `compare`.
+// The search of a page, with a tally of what a get costs: it is lent to each search and grows with it. The work is done by `compare`, on plain numbers.
 #![tactic(auto)]
 
 ghost use Rattle.std.specs.Prelude.{◌≡◌, ◌+◌, ◌*◌, ◌≤◌, ◌<◌, ◌^◌, length};

@@ -1,7 +1,7 @@
 /*
  * What some cards carry, told before one is ordered, for C99 and for C++:
  *
- *     rt staticlib mortxizal
+ *     ./library
  *     cc -std=c99 -I include rust/mortxizal/examples/card.c target/staticlib/libmortxizal.a -o card
  */
 #include <inttypes.h>

@@ -1,7 +1,7 @@
 /*
  * A first program over the index, for C99 and for C++:
  *
- *     rt staticlib mortxizal
+ *     ./library
  *     cc -std=c99 -I include rust/mortxizal/examples/first.c target/staticlib/libmortxizal.a -o first
  */
 #include <inttypes.h>

@@ -9,7 +9,7 @@
 //! proved to answer and to leave, byte for byte, what the index's definition
 //! says, on areas of any length and any content: a damaged table refuses a call
 //! or answers from what it holds, and never does anything undefined. This crate
-//! puts slices and results around it. `rt staticlib mortxizal` has to be run
+//! puts slices and results around it. `./library` has to be run
 //! before it is built, and again when it has changed: an [`Index`] over a library
 //! of another interface panics at once, or does not link ([`raw::interface`]). The
 //! library is for x86-64 Linux.

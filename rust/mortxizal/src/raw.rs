@@ -272,6 +272,6 @@ pub(crate) fn expect_interface() {
     let library = interface();
     assert_eq!(
         library, INTERFACE,
-        "target/staticlib/libmortxizal.a is of another interface: run `rt staticlib mortxizal` again"
+        "target/staticlib/libmortxizal.a is of another interface: run `./library` again"
     );
 }

@@ -26,7 +26,7 @@ pub fn program(name: &str) -> PathBuf {
         .join(name);
     assert!(
         path.is_file(),
-        "{} is not built: run rt check {name} first",
+        "{} is not built: run ./session --build first",
         path.display()
     );
     path

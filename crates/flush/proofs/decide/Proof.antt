@@ -3,7 +3,6 @@ use mathlib.Core.Bool.{true, false}
 use mathlib.Core.Path.{◌≡◌, sym, ◌∙◌, ap}
 use native.Mathlib.Omega.{arith}
 use borrow.Author.Rules.{rules}
-use borrow.Author.Tests.{not-true, not-false}
 use Rattle.model.specs.Partition.{head_of}
 use Rattle.model.specs.Refusals.{head_overfull, some_page_overfull}
 use Rattle.model.specs.Flush.{in_use}

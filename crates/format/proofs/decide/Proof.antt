@@ -3,7 +3,6 @@ use mathlib.Core.Bool.{true}
 use mathlib.Core.Path.{◌≡◌, sym, ◌∙◌}
 use native.Mathlib.Omega.{arith}
 use borrow.Author.Rules.{rules}
-use borrow.Author.Tests.{not-true, not-false}
 use Rattle.model.specs.Geometry.{allowed}
 use Rattle.model.proofs.Checks.{format-1, format-2, format-3, format-passes}
 use Rattle.format.proofs.decide.Statement.{statement}

@@ -4,7 +4,6 @@ use mathlib.Core.Option.{none}
 use mathlib.Core.Path.{◌≡◌, sym, ◌∙◌, ap}
 use native.Mathlib.Omega.{arith}
 use borrow.Author.Rules.{rules}
-use borrow.Author.Tests.{not-true, not-false}
 use Rattle.model.specs.Geometry.{allowed, memory_need, flash_need}
 use Rattle.model.specs.Opening.{geometry_of}
 use Rattle.model.proofs.Calls.{opens, opening-2, opening-11, opening-11-eighth, opening-2-need, opening-3}

@@ -2,7 +2,6 @@
 use mathlib.Core.Bool.{true, false}
 use mathlib.Core.Path.{◌≡◌, sym, ◌∙◌}
 use borrow.Author.Rules.{rules}
-use borrow.Author.Tests.{not-true, not-false}
 use Rattle.model.specs.Refusals.{key_overfull, some_page_overfull}
 use Rattle.model.specs.Put.{due}
 use Rattle.put.proofs.Planning.{over, not-due, some-over, flush-first}
