@@ -77,13 +77,7 @@ pub fn mx_flush(memory: &mut [u8], flash: &mut [u8], partition: u32) -> MxAnswer
     of_written(index::flush(memory, flash, partition))
 }
 
-pub fn mx_view(
-    memory: &[u8],
-    flash: &[u8],
-    partition: u32,
-    page: u32,
-    flush: u32,
-) -> MxAnswer
+pub fn mx_view(memory: &[u8], flash: &[u8], partition: u32, page: u32, flush: u32) -> MxAnswer
     ensures { Exports (Call.view partition page flush) memory.now flash.now result memory.now flash.now }
 {
     of_viewed(index::view_outcome(memory, flash, partition, page, flush))
@@ -95,12 +89,7 @@ pub fn mx_count(memory: &[u8], flash: &[u8], partition: u32) -> MxAnswer
     of_written(index::count(memory, flash, partition))
 }
 
-pub fn mx_text<'a>(
-    memory: &'a [u8],
-    flash: &'a [u8],
-    partition: u32,
-    text: &mut [u8],
-) -> MxAnswer
+pub fn mx_text<'a>(memory: &'a [u8], flash: &'a [u8], partition: u32, text: &mut [u8]) -> MxAnswer
     ensures { ExportsText partition memory.now flash.now text.old result text.new }
 {
     of_text(index::text(memory, flash, partition, text))

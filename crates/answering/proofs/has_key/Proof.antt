@@ -6,7 +6,6 @@ use native.Mathlib.Nat.{add-sub_cancel_left}
 use native.Mathlib.Omega.{arith}
 use lib.ListN.{length}
 use borrow.Author.Rules.{rules}
-use borrow.Author.Tests.{not-true, not-false}
 use Rattle.model.specs.Geometry.{slot_page_at}
 use Rattle.model.specs.Keys.{page_of}
 use Rattle.model.specs.Partition.{slot, batch_passes}

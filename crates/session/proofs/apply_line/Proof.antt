@@ -1,6 +1,6 @@
 -- Where there is room the line is performed, and else nothing is done.
 use mathlib.Core.Path.{refl, sym, ◌∙◌}
-use borrow.Author.Tests.{leb-true, leb-false, not-true, not-false}
+use borrow.Author.Tests.{leb-true, leb-false}
 use borrow.Author.Rules.{rules}
 use Rattle.session.proofs.apply_line.Statement.{statement}
 use Rattle.session.proofs.apply_line.Tie as tie
