@@ -53,13 +53,7 @@ fn run_whole(
 }
 
 // A last line that the end of input ends.
-fn run_last(
-    stdout: &impl Print,
-    memory: &mut [u8],
-    flash: &mut [u8],
-    line: &[u8],
-    out: &mut [u8],
-)
+fn run_last(stdout: &impl Print, memory: &mut [u8], flash: &mut [u8], line: &[u8], out: &mut [u8])
     requires room_in_bounds { room ≤ length out.old }
     requires unended { Unended 0 line.now }
     ensures { RanLast line.now (areas memory.old flash.old) out.old out.new (areas memory.new flash.new) }
