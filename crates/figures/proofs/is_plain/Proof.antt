@@ -17,14 +17,11 @@ returns c = rw (leading-none _ _ (sym c.is_figure.ensures ∙ c.if-not-is_figure
 shared-slice-read-if2 : tie.Need-bounds-line-at
 shared-slice-read-if2 c = (figure-here _ _ (first c.before)).0
 
-returns-2 : tie.Need-returns-then-line-at-ne48
-returns-2 c = sym (plain_more _ _ (first c.before.before) c.if-line-at-ne48.true)
-
 add-is-figure : tie.Need-overflow_add-at
 add-is-figure c = let w = figure-here _ _ (first c.before.before) in omega arith
 
 returns-3 : tie.Need-returns
-returns-3 c = sym (plain-zero _ _ c.if-line-at-ne48.false _ (sym c.is_figure-2.ensures))
+returns-3 c = sym (plain-zero _ _ (omega arith) _ (sym c.is_figure-2.ensures))
 
 pub is_plain_spec : {M : Type 1} → statement M
-is_plain_spec = tie.close (tie.spec (λ c κs. search rules) returns shared-slice-read-if2 returns-2 add-is-figure (λ c κs. search rules) returns-3)
+is_plain_spec = tie.close (tie.spec (λ c κs. search rules) returns shared-slice-read-if2 (λ c. sym (plain_more _ _ (first c.before.before) (λ e. omega arith))) add-is-figure (λ c κs. search rules) returns-3)

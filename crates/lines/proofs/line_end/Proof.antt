@@ -16,14 +16,11 @@ decreases-loop input from i₀ i = length input - i
 loop-holds : tie.Need-loop-i-init invariant-loop decreases-loop
 loop-holds c = (omega arith, omega arith, λ k l g. omega arith)
 
-returns : tie.Need-returns-then-input-i-eq10 invariant-loop decreases-loop
-returns c = record { begins = omega arith; within = omega arith; ends = λ l. c.if-input-i-eq10.true; inside = λ k g l. c.loop-i.invariant.2 k l g }
-
 loop-again : tie.Need-loop-i-preserved invariant-loop decreases-loop
-loop-again c = (omega arith, omega arith, below_more _ _ c.loop-i.invariant.2 (λ g. c.if-input-i-eq10.false))
+loop-again c = (omega arith, omega arith, below_more _ _ c.loop-i.invariant.2 (λ g e. omega arith))
 
 returns-2 : tie.Need-returns invariant-loop decreases-loop
 returns-2 c = record { begins = omega arith; within = omega arith; ends = λ l. omega arith; inside = λ k g l. c.loop-i.invariant.2 k l g }
 
 pub line_end_spec : {M : Type 1} → statement M
-line_end_spec = tie.close (tie.spec invariant-loop decreases-loop loop-holds (λ c. omega arith) returns (λ c. omega arith) (λ c. omega arith) loop-again returns-2)
+line_end_spec = tie.close (tie.spec invariant-loop decreases-loop loop-holds (λ c. omega arith) (λ c. record { begins = omega arith; within = omega arith; ends = λ l. omega arith; inside = λ k g l. c.loop-i.invariant.2 k l g }) (λ c. omega arith) (λ c. omega arith) loop-again returns-2)

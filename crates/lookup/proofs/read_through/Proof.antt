@@ -1,6 +1,6 @@
 -- The whole answer is at all times the answer from here on: outside, of the batches that are left; inside, the loop stands where the search of the page stopped.
 use Prim.Native.Nat.{ℕ, ◌+◌, ◌-◌, ◌*◌, ◌≤◌}
-use mathlib.Core.Bool.{true}
+use mathlib.Core.Bool.{true, false}
 use mathlib.Core.List.{List}
 use mathlib.Core.Path.{◌≡◌, refl, sym, ◌∙◌, ap}
 use native.Mathlib.Nat.{add-sub_cancel_left}
@@ -109,17 +109,14 @@ checked c = let l = c.before.before.before.before.before.before.before in rw (c.
 passed : (c : tie.Else-not-passes invariant-loop decreases-loop invariant-batches decreases-batches) → let l = c.before.before.before.before in let a = (start l).args in batch_passes a.g a.key a.part.now l.batches.next ≡ true
 passed c = tested c.before ∙ c.if-not-passes.false
 
-returns : tie.Need-returns-then-not-is_expected_at invariant-loop decreases-loop invariant-batches decreases-batches
-returns c = c.failed.ensures ∙ sym (at-bad _ _ _ _ _ _ _ _ (turn c.before.before.before).batches.invariant.4 (omega arith) (passed c.before.before.before.before.before) (checked c.before.before ∙ c.if-not-is_expected_at.true))
-
--- the page's used entries fit it
-room : (c : tie.Else-not-is_expected_at invariant-loop decreases-loop invariant-batches decreases-batches) → let page = lent c.before.before in (16 + 16 * count_of page ≤ length page) × (length page ≤ 4096)
-room c =
-    let p = c.before.before in
+-- the page's used entries fit it, where its head is as expected
+room : (c : tie.After-is_expected_at invariant-loop decreases-loop invariant-batches decreases-batches) → c.is_expected_at.result ≡ true → let page = lent c.before in (16 + 16 * count_of page ≤ length page) × (length page ≤ 4096)
+room c own-head =
+    let p = c.before in
     let s = start (turn p) in
     let ok = s.requires.0.fine in
     let z = sizes s.args.g ok in
-    let h = expected-fits _ _ _ _ _ ok (sym c.is_expected_at.ensures ∙ c.if-not-is_expected_at.false) in
+    let h = expected-fits _ _ _ _ _ ok (sym c.is_expected_at.ensures ∙ own-head) in
     rw (add-sub_cancel_left, length-mid _ _ _ (inside p).0) (omega (arith, h), omega arith)
 
 -- the whole answer is that of the search, then of the batches that are left
@@ -131,10 +128,11 @@ entered : (c : tie.After-search_with-searched invariant-loop decreases-loop inva
 entered c =
     let p = c.before.before.before.before.before in
     let e = c.search_with-searched.ensures in
-    rw (own p) (at-page _ _ _ _ _ _ _ _ (turn p).batches.invariant.4 (omega arith) (passed p.before.before) (checked c.before.before.before.before ∙ c.if-not-is_expected_at.false) _ e.1 (rw (own p) at e.2))
+    let own-head : c.is_expected_at.result ≡ true = cc in
+    rw (own p) (at-page _ _ _ _ _ _ _ _ (turn p).batches.invariant.4 (omega arith) (passed p.before.before) (checked c.before.before.before.before ∙ own-head) _ e.1 (rw (own p) at e.2))
 
 search-with-requires : tie.Need-search_with-searched-requires invariant-loop decreases-loop invariant-batches decreases-batches
-search-with-requires c κs = let r = room c.before.before in (r.0, omega (arith, r))
+search-with-requires c κs = let r = room c.before.before.before (cc) in (r.0, omega (arith, r))
 
 loop-holds : tie.Need-loop-i-init invariant-loop decreases-loop invariant-batches decreases-batches
 loop-holds c = rw (c.search_with-searched.ensures.0, c.count-entries.ensures) at c.stop-i.ensures
@@ -147,7 +145,7 @@ batches-again-2 : tie.Need-batches-preserved invariant-loop decreases-loop invar
 batches-again-2 c =
     let e = c.search_with-searched.ensures in
     let p = c.before.before.before.before.before.before.before.before.before.before in
-    (omega arith, omega arith, omega (arith, compared-most (start (turn p)).args.key (lent p), room c.before.before.before.before.before.before.before.before), refl, entered c.before.before.before.before.before ∙ rw (stopped-behind _ _ _ c.loop-i.invariant (omega arith)), slot_kept p.before.before.before.before)
+    (omega arith, omega arith, omega (arith, compared-most (start (turn p)).args.key (lent p), room c.before.before.before.before.before.before.before.before.before (cc)), refl, entered c.before.before.before.before.before ∙ rw (stopped-behind _ _ _ c.loop-i.invariant (omega arith)), slot_kept p.before.before.before.before)
 
 returns-2 : tie.Need-returns-after-batches invariant-loop decreases-loop invariant-batches decreases-batches
 returns-2 c = let v = c.batches.invariant in ap answered v.3 ∙ sym (at-end _ _ _ _ _ _ _ _ v.4 (omega arith))
@@ -156,4 +154,4 @@ returns-3 : tie.Need-returns-then-u64_at-key invariant-loop decreases-loop invar
 returns-3 c = c.found_in-answer.ensures ∙ rw c.value_at-value.ensures (sym (entered c.before.before.before.before.before.before.before.before.before ∙ rw (stopped-at _ _ _ c.loop-i.invariant (omega arith))))
 
 pub read_through_spec : {M : Type 1} → statement M
-read_through_spec = tie.close (tie.spec invariant-loop decreases-loop invariant-batches decreases-batches (λ c κs. tt) (λ c κs. c.requires.0.fine) (λ c κs. c.requires.0.fine) (λ c κs. omega (arith, list_inside _ _ c.requires.0)) (λ c. let s = c.before.before.before.before.before.before.before in omega (arith, live-is c.read-head.ensures, flushes-is c.read-head.ensures, head-fits s.args.g (head_of s.args.part.now) s.requires.1.0)) (λ c. let z = sizes _ c.requires.0.fine in omega arith) batches-holds (λ c κs. (start c.before).requires.0.fine) (λ c. omega arith) passes-requires (λ c. omega arith) batches-again (λ c. omega arith) slot-page-at-requires (λ c κs. ((start (turn c)).requires.0.fine, (inside c).0)) (λ c κs. tt) returns (λ c. omega arith) (λ c. omega (arith, inside c.before.before.before)) (λ c. omega arith) (λ c. omega arith) (λ c. omega (arith, inside c.before.before.before)) search-with-requires (λ c κs. omega (arith, room c.before.before.before.before)) (λ c κs. omega (arith, room c.before.before.before.before.before)) loop-holds (λ c. omega (arith, room c.before.before.before.before.before.before.before.before)) (λ c κs. omega (arith, room c.before.before.before.before.before.before.before.before)) (λ c κs. omega (arith, room c.before.before.before.before.before.before.before.before.before.before)) (λ c κs. tt) (λ c. omega (arith, room c.before.before.before.before.before.before.before.before.before.before)) (λ c. omega arith) loop-again (λ c. omega arith) batches-again-2 returns-2 returns-3)
+read_through_spec = tie.close (tie.spec invariant-loop decreases-loop invariant-batches decreases-batches (λ c κs. tt) (λ c κs. c.requires.0.fine) (λ c κs. c.requires.0.fine) (λ c κs. omega (arith, list_inside _ _ c.requires.0)) (λ c. let s = c.before.before.before.before.before.before.before in omega (arith, live-is c.read-head.ensures, flushes-is c.read-head.ensures, head-fits s.args.g (head_of s.args.part.now) s.requires.1.0)) (λ c. let z = sizes _ c.requires.0.fine in omega arith) batches-holds (λ c κs. (start c.before).requires.0.fine) (λ c. omega arith) passes-requires (λ c. omega arith) batches-again (λ c. omega arith) slot-page-at-requires (λ c κs. ((start (turn c)).requires.0.fine, (inside c).0)) (λ c κs. tt) (λ c. let no : c.is_expected_at.result ≡ false = cc in c.failed.ensures ∙ sym (at-bad _ _ _ _ _ _ _ _ (turn c.before.before.before).batches.invariant.4 (omega arith) (passed c.before.before.before.before.before) (checked c.before.before ∙ no))) (λ c. omega arith) (λ c. omega (arith, inside c.before.before.before)) (λ c. omega arith) (λ c. omega arith) (λ c. omega (arith, inside c.before.before.before)) search-with-requires (λ c κs. omega (arith, room c.before.before.before.before.before (cc))) (λ c κs. omega (arith, room c.before.before.before.before.before.before (cc))) loop-holds (λ c. omega (arith, room c.before.before.before.before.before.before.before.before.before (cc))) (λ c κs. omega (arith, room c.before.before.before.before.before.before.before.before.before (cc))) (λ c κs. omega (arith, room c.before.before.before.before.before.before.before.before.before.before.before (cc))) (λ c κs. tt) (λ c. omega (arith, room c.before.before.before.before.before.before.before.before.before.before.before (cc))) (λ c. omega arith) loop-again (λ c. omega arith) batches-again-2 returns-2 returns-3)
