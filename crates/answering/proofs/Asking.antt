@@ -2,7 +2,8 @@
 use Prim.Native.Nat.{ℕ, zero, suc, ◌+◌, ◌-◌, ◌≤◌, ◌<◌}
 use mathlib.Core.Bool.{Bool, true, false, cond, ◌&&◌, false≢true}
 use mathlib.Core.List.{List}
-use mathlib.Core.Option.{Option, none, some}
+use Rattle.std.specs.Prelude.{Option, None, Some}
+use Rattle.std.specs.Option as option
 use mathlib.Core.Path.{◌≡◌, refl, sym, ◌∙◌, ap}
 use native.Mathlib.Nat.{zero-add, sub-zero}
 use native.Mathlib.Omega.{arith}
@@ -27,6 +28,15 @@ use Rattle.answering.specs.Younger.{read_among, sought_among, is_absent}
 use Rattle.sources.specs.Readable.{Readable}
 use Rattle.sources.proofs.Sources.{batch-expected}
 
+-- ---- the code's test of what a search finds
+pub is-some : {A : Type 0} (o : Option A) → option.is_some o ≡ true → (x : A) × (o ≡ Some x)
+is-some None e = absurd (false≢true e)
+is-some (Some x) e = (x, refl)
+
+pub is-none : {A : Type 0} (o : Option A) → option.is_some o ≡ false → o ≡ None
+is-none None e = refl
+is-none (Some x) e = absurd (false≢true (sym e))
+
 module _ (g : Geometry) (k : ℕ) (p f : List ℕ) where
   abbrev walk : ℕ → ℕ → Tally → Answer
   walk count n c = read_through g k f (passing_from g k p count n) c
@@ -40,8 +50,8 @@ module _ (g : Geometry) (k : ℕ) (p f : List ℕ) where
   -- ---- it does not answer from a batch that it does not come to
   not-on-page : (n : ℕ) (b : Bool) (o : Option ℕ) (page : List ℕ) (c : Tally) (reads m : ℕ) (rest : Answer) → eqb n m ≡ false → is_found_in (batch n) rest ≡ false → is_found_in (batch n) (cond b (hit_in page c (batch m) o rest) (refused 13 reads)) ≡ false
   not-on-page n false o page c reads m rest other e = refl
-  not-on-page n true (some i) page c reads m rest other e = other
-  not-on-page n true none page c reads m rest other e = e
+  not-on-page n true (Some i) page c reads m rest other e = other
+  not-on-page n true None page c reads m rest other e = e
 
   elsewhere : (n count m : ℕ) (c : Tally) → ((i : ℕ) → i < count → n ≡ m - i → ⊥) → is_found_in (batch n) (walk count m c) ≡ false
   elsewhere n zero m c out = rw (pass-end g k p 0 m (omega arith), read_none g k f c)
@@ -58,8 +68,8 @@ module _ (g : Geometry) (k : ℕ) (p f : List ℕ) where
     behind-page : (whole : Bool) (o : Option ℕ) (page : List ℕ) (c : Tally) (reads m : ℕ) (rest first : Answer) → eqb n m ≡ false → is_found_in (batch n) rest ≡ is_absent first && b
         → is_found_in (batch n) (cond whole (hit_in page c (batch m) o rest) (refused 13 reads)) ≡ is_absent (cond whole (hit_in page c (batch m) o first) (refused 13 reads)) && b
     behind-page false o page c reads m rest first other e = refl
-    behind-page true (some i) page c reads m rest first other e = other
-    behind-page true none page c reads m rest first other e = e
+    behind-page true (Some i) page c reads m rest first other e = other
+    behind-page true None page c reads m rest first other e = e
 
     behind-younger : (count more m : ℕ) (c : Tally) → ((i : ℕ) → i < count → n ≡ m - i → ⊥) → ((c : Tally) → is_found_in (batch n) (walk more (m - count) c) ≡ b) → is_found_in (batch n) (walk (count + more) m c) ≡ is_absent (walk count m c) && b
     behind-younger zero more m c out own = rw (zero-add, pass-end g k p 0 m (omega arith), read_none g k f c) (rw sub-zero at (own c))
@@ -77,21 +87,21 @@ module _ (g : Geometry) (k : ℕ) (p f : List ℕ) where
 
 -- ---- whether batch n answers, b being whether its filter passes, by the answer of all that is younger
 behind-buffer : (n : ℕ) (b : Bool) (o : Option ℕ) (page : List ℕ) (c : Tally) (rest first : Answer) → is_found_in (batch n) rest ≡ is_absent first && b → is_found_in (batch n) (hit_in page c buffer o rest) ≡ is_absent (hit_in page c buffer o first) && b
-behind-buffer n b (some i) page c rest first e = refl
-behind-buffer n b none page c rest first e = e
+behind-buffer n b (Some i) page c rest first e = refl
+behind-buffer n b None page c rest first e = e
 
 -- ---- the key's own page of the buffer holds it
 in_buffer : (o : Option ℕ) (page : List ℕ) (c : Tally) (rest : Answer) → is_some o ≡ true → is_found_in buffer (hit_in page c buffer o rest) ≡ true
-in_buffer none page c rest e = absurd (false≢true e)
-in_buffer (some i) page c rest e = refl
+in_buffer None page c rest e = absurd (false≢true e)
+in_buffer (Some i) page c rest e = refl
 
 pub from-buffer : (g : Geometry) (count k : ℕ) (p f : List ℕ) → is_some (searched k (buffer_of g p (page_of g k))) ≡ true → is_found_in buffer (sought_among g count k p f) ≡ true
 from-buffer g count k p f e = in_buffer (searched k (buffer_of g p (page_of g k))) (buffer_of g p (page_of g k)) (tally 0 (compared k (buffer_of g p (page_of g k)))) (read_among g count k p f) e
 
 -- ---- batch n is live and holds the key
 found_here : (n : ℕ) (o : Option ℕ) (page : List ℕ) (c : Tally) (rest : Answer) → is_some o ≡ true → is_found_in (batch n) (hit_in page c (batch n) o rest) ≡ true
-found_here n none page c rest e = absurd (false≢true e)
-found_here n (some i) page c rest e = eq-eqb n n refl
+found_here n None page c rest e = absurd (false≢true e)
+found_here n (Some i) page c rest e = eq-eqb n n refl
 
 module _ (g : Geometry) (t : ℕ) (p f : List ℕ) (r : Readable g t p f) (n : ℕ) (alive : is_live (head_of p) n ≡ true) (k : ℕ) (own : partition_of g k ≡ t) (holds : is_some (searched k (batch_page g t f n (page_of g k))) ≡ true) where
   from-own : (more : ℕ) (c : Tally) → 0 < more → is_found_in (batch n) (walk g k p f more n c) ≡ batch_passes g k p n
@@ -143,16 +153,16 @@ module _ {g : Geometry} {k : ℕ} {p f : List ℕ} {n next : ℕ} (asking : Aski
         where
           go : (b : Bool) (o : Option ℕ) → batch_passes g k p next ≡ b → searched k (batch_page g t f next (page_of g k)) ≡ o → b && is_some o ≡ true → is_absent (read_among g (flushes_of p - n) k p f) ≡ false
           go false o h e x = absurd (false≢true x)
-          go true none h e x = absurd (false≢true x)
-          go true (some i) h e x = read_next true (some i) h e
+          go true None h e x = absurd (false≢true x)
+          go true (Some i) h e x = read_next true (Some i) h e
 
       pub asking-next : batch_passes g k p next && is_some (searched k (batch_page g t f next (page_of g k))) ≡ false → Asking g k p f n (next - 1)
       asking-next lacks = go (batch_passes g k p next) (searched k (batch_page g t f next (page_of g k))) refl refl lacks
         where
           go : (b : Bool) (o : Option ℕ) → batch_passes g k p next ≡ b → searched k (batch_page g t f next (page_of g k)) ≡ o → b && is_some o ≡ false → Asking g k p f n (next - 1)
           go false o h e x = record { cost = asking.cost; same = read_next false o h e }
-          go true none h e x = record { cost = with_page g k f next asking.cost; same = read_next true none h e }
-          go true (some i) h e x = absurd (false≢true (sym x))
+          go true None h e x = record { cost = with_page g k f next asking.cost; same = read_next true None h e }
+          go true (Some i) h e x = absurd (false≢true (sym x))
 
 -- ---- an entry with the key, by the first entry of its page with it
 pub answers_by : (g : Geometry) (t : ℕ) (p f : List ℕ) (at : Place) (q i key : ℕ) (page : List ℕ) → page ≡ source_page g t p f at q → key ≡ key_at page i → answers_with g t p f at q i ≡ answers_in g t p f at q key && is_at i (searched key page)

@@ -18,7 +18,6 @@ use answers::Place;
 use head::Head;
 use model::Geometry;
 use page_reader::Entry;
-use records::Found;
 use sources::Spot;
 
 // Has batch n the key, by its filter and then by its page? x is the key, mixed.
@@ -34,10 +33,7 @@ fn has_key(part: &[u8], flash: &[u8], g: Geometry, t: u32, n: u32, key: u64, x: 
     }
     let a = geometry::slot_page_at(g, t, slot, keys::page_of(g, key));
     let e = a + g.page as usize;
-    match page::search(&flash[a..e], key) {
-        Found::At(_) => true,
-        Found::Nothing => false,
-    }
+    page::search(&flash[a..e], key).is_some()
 }
 
 // Does a batch younger than batch n answer a get of the key? A get's own search is not asked: with a second caller it would be compiled as a call.
@@ -48,12 +44,11 @@ fn is_superseded(part: &[u8], flash: &[u8], g: Geometry, t: u32, n: u32, key: u6
     ensures { result ≡ not (is_absent (read_among g (flushes_of part.now - n) key part.now flash.now)) }
 {
     let x = keys::mix(key);
-    let mut next = Head::read(part).flushes;
-    while n < next {
-        if has_key(part, flash, g, t, next, key, x) {
+    let younger = Head::read(part).flushes - n;
+    for age in 0..younger {
+        if has_key(part, flash, g, t, n + younger - age, key, x) {
             return true;
         }
-        next -= 1;
     }
     false
 }
@@ -66,15 +61,13 @@ fn is_batch_asked(part: &[u8], flash: &[u8], g: Geometry, t: u32, n: u32, key: u
     requires key_value_2 { is_some (searched key (batch_page g t flash.now n (page_of g key))) ≡ true }
     ensures { result ≡ is_found_in (batch n) (sought_among g (live_of part.now) key part.now flash.now) }
 {
-    match buffer::find(part, g, keys::page_of(g, key), key) {
-        Found::At(_) => false,
-        Found::Nothing => {
-            if is_superseded(part, flash, g, t, n, key) {
-                return false;
-            }
-            filter::passes(part, g, geometry::slot_of(g, n), keys::mix(key))
-        }
+    if buffer::find(part, g, keys::page_of(g, key), key).is_some() {
+        return false;
     }
+    if is_superseded(part, flash, g, t, n, key) {
+        return false;
+    }
+    filter::passes(part, g, geometry::slot_of(g, n), keys::mix(key))
 }
 
 // Is the page there, which holds the key, the one that a get of the key answers from?
@@ -89,13 +82,12 @@ fn answers_in(part: &[u8], flash: &[u8], g: Geometry, spot: Spot, key: u64) -> b
     if keys::page_of(g, key) != spot.page {
         return false;
     }
-    let at = spot.at;
-    match list::find(part, g, key) {
-        Found::At(_) => false,
-        Found::Nothing => match at {
-            Place::Buffer => true,
-            Place::Batch(n) => is_batch_asked(part, flash, g, spot.partition, n, key),
-        },
+    if list::find(part, g, key).is_some() {
+        return false;
+    }
+    match spot.at {
+        Place::Buffer => true,
+        Place::Batch(n) => is_batch_asked(part, flash, g, spot.partition, n, key),
     }
 }
 
@@ -114,12 +106,7 @@ pub fn answers_with(
     ensures { result ≡ spot_answers g spot part.now flash.now entry.place }
 {
     match page::search(page, entry.key) {
-        Found::At(first) => {
-            if first != entry.place {
-                return false;
-            }
-            answers_in(part, flash, g, spot, entry.key)
-        }
-        Found::Nothing => false,
+        Some(first) => first == entry.place && answers_in(part, flash, g, spot, entry.key),
+        None => false,
     }
 }

@@ -1,7 +1,8 @@
 -- What every public call promises: for all areas and arguments, refused or not, it answers and leaves what the definitions say.
-use Rattle.std.specs.Prelude.{ℕ, ◌+◌, ◌≤◌, List, ◌≡◌, length}
+use Rattle.std.specs.Prelude.{ℕ, ◌+◌, ◌≤◌, List, ◌≡◌, length, Result, Ok, Err}
 use Rattle.model.specs.Answers.{Areas, Answer}
 use Rattle.model.specs.Calls.{Call, reply, after}
+use Rattle.answers.specs.declared.Refusal.{Refusal}
 use Rattle.answers.specs.declared.Viewed.{Viewed}
 
 abbrev pub areas : List ℕ → List ℕ → Areas
@@ -13,7 +14,7 @@ pub record Performs (c : Call) (m f : List ℕ) (r : Answer) (m' f' : List ℕ) 
   pub leaves : areas m' f' ≡ after (areas m f) c
 
 -- what a view shows lies within its area
-abbrev pub Inside : Viewed → List ℕ → List ℕ → Type 0
-Inside (Viewed.Memory at size) m f = at + size ≤ length m
-Inside (Viewed.Flash at size) m f = at + size ≤ length f
-Inside (Viewed.Refused r) m f = Unit {0}
+abbrev pub Inside : Result Viewed Refusal → List ℕ → List ℕ → Type 0
+Inside (Ok (Viewed.Memory at size)) m f = at + size ≤ length m
+Inside (Ok (Viewed.Flash at size)) m f = at + size ≤ length f
+Inside (Err r) m f = Unit {0}

@@ -1,28 +1,53 @@
 // What the calls answer. specs/Told.antt gives the paper's number and values for each case.
 #![tactic(auto)]
 
-// A refusal: its number, and the pages read before it.
+ghost use Rattle.std.specs.Prelude.{◌≡◌};
+ghost use Rattle.answers.specs.Told.{number, unread};
+
+// Why a call refuses. Its number is the documents'.
+#[derive(Clone, Copy)]
+pub enum Reason {
+    NotAllowed = 1,
+    MemoryShort = 2,
+    FlashShort = 3,
+    NoSuchPart = 4,
+    NoTable = 11,
+    Overfull = 12,
+    Unexpected = 13,
+    ListFull = 14,
+    BufferEmpty = 15,
+    LastFlush = 16,
+    NotLive = 17,
+    ZeroValue = 21,
+    TextShort = 22,
+    NothingLive = 23,
+}
+
+impl Reason {
+    pub fn number(self) -> u32
+        ensures { result ≡ number self }
+    {
+        self as u32
+    }
+}
+
+// A refusal: why, and the pages read before it.
 #[derive(Clone, Copy)]
 pub struct Refusal {
-    pub number: u32,
+    pub reason: Reason,
     pub reads: u32,
 }
 
-// Do the checks of a call stop it, and with which refusal?
-#[derive(Clone, Copy)]
-pub enum Verdict {
-    Accepted,
-    Refused(Refusal),
+// Most come before any page is read.
+impl From<Reason> for Refusal {
+    ghost from_gives = { λ reason refusal. refusal ≡ unread reason };
+
+    fn from(reason: Reason) -> Refusal {
+        Refusal { reason, reads: 0 }
+    }
 }
 
-// format, put, del, flush: the pages written; count: the total.
-#[derive(Clone, Copy)]
-pub enum Written {
-    Done(u32),
-    Refused(Refusal),
-}
-
-// Where a found key was: in the buffer, or in a batch by its number.
+// Where a found key was: in the buffer, or in a batch by its number. No `Option`: its `None` would say nothing of a buffer.
 #[derive(Clone, Copy)]
 pub enum Place {
     Buffer,
@@ -48,7 +73,6 @@ pub struct Hit {
 pub enum Answer {
     Found(Hit),
     Absent(Tally),
-    Refused(Refusal),
 }
 
 // view: where the page begins, in memory or in flash, and its bytes.
@@ -56,5 +80,4 @@ pub enum Answer {
 pub enum Viewed {
     Memory(usize, usize),
     Flash(usize, usize),
-    Refused(Refusal),
 }

@@ -1,7 +1,7 @@
 -- A line that says a call prints that call's answer and leaves what the call leaves; any other line is bad and leaves all as it is.
 use Prim.Native.Nat.{ℕ, ◌+◌, ◌≤◌}
 use mathlib.Core.List.{List}
-use mathlib.Core.Option.{none, some}
+use Rattle.std.specs.Prelude.{None, Some}
 use mathlib.Core.Path.{◌≡◌, sym, ◌∙◌}
 use native.Mathlib.Omega.{arith}
 use lib.ListN.{length}
@@ -14,8 +14,8 @@ use Rattle.answers.specs.Performs.{areas, Performs}
 use Rattle.printer.specs.Puts.{Puts, room}
 use Rattle.applying.specs.Applies.{Applies}
 
-pub calls : {line : List ℕ} {c : Call} {m f m' f' : List ℕ} {r : Answer} {at next : ℕ} {o o' : List ℕ} → at + room ≤ length o → call_of line ≡ some c → Performs c m f r m' f' → Puts (answer_text r) at o next o' → Applies line (areas m f) at o next o' (areas m' f')
-calls {line} {c} {m} {f} {r = r} l e p w = record { fits = omega (arith, w.ends, length-answer r); prints = rw (prints-answer line (areas m f) c e, ← p.answers) w; leaves = p.leaves ∙ sym (leaves_after line (areas m f) c e) }
+pub calls : {line : List ℕ} {c : Call} {m f m' f' : List ℕ} {r : Answer} {at next : ℕ} {o o' : List ℕ} → at + room ≤ length o → Performs c m f r m' f' → Puts (answer_text r) at o next o' → call_of line ≡ Some c → Applies line (areas m f) at o next o' (areas m' f')
+calls {line} {c} {m} {f} {r = r} l p w e = record { fits = omega (arith, w.ends, length-answer r); prints = rw (prints-answer line (areas m f) c e, ← p.answers) w; leaves = p.leaves ∙ sym (leaves_after line (areas m f) c e) }
 
-pub bad : {line : List ℕ} {a : Areas} {at next : ℕ} {o o' : List ℕ} → at + room ≤ length o → call_of line ≡ none → Puts (text "(bad)\n") at o next o' → Applies line a at o next o' a
-bad {line} {a} l e w = record { fits = omega (arith, w.ends); prints = rw (prints-bad line a e) w; leaves = sym (leaves-same line a e) }
+pub bad : {line : List ℕ} {a : Areas} {at next : ℕ} {o o' : List ℕ} → at + room ≤ length o → Puts (text "(bad)\n") at o next o' → call_of line ≡ None → Applies line a at o next o' a
+bad {line} {a} l w e = record { fits = omega (arith, w.ends); prints = rw (prints-bad line a e) w; leaves = sym (leaves-same line a e) }

@@ -14,7 +14,10 @@ pub fn perform(memory: &mut [u8], flash: &mut [u8], line: &[u8], out: &mut [u8],
     requires { at + room ≤ length out.old }
     ensures { Applies line.now (areas memory.old flash.old) at out.old result out.new (areas memory.new flash.new) }
 {
-    match reader::read_line(line) {
+    let Some(form) = reader::read_line(line) else {
+        return write_bad(out, at);
+    };
+    match form {
         Form::Format(g) => write_written(out, at, index::format(memory, flash, g)),
         Form::Put(key, value) => write_written(out, at, index::put(memory, flash, key, value)),
         Form::Get(key) => write_answer(out, at, index::get(memory, flash, key)),
@@ -22,6 +25,5 @@ pub fn perform(memory: &mut [u8], flash: &mut [u8], line: &[u8], out: &mut [u8],
         Form::Flush(partition) => write_written(out, at, index::flush(memory, flash, partition)),
         Form::Count(partition) => write_written(out, at, index::count(memory, flash, partition)),
         Form::Drop(partition) => write_written(out, at, index::drop(memory, flash, partition)),
-        Form::Bad => write_bad(out, at),
     }
 }

@@ -1,7 +1,7 @@
 // One page of a batch, in flash: written with its flush number, and its head examined.
 #![tactic(auto)]
 
-ghost use Rattle.std.specs.Prelude.{true, ◌≡◌, ◌+◌, ◌%◌, ◌≤◌, length};
+ghost use Rattle.std.specs.Prelude.{true, ◌≡◌, ◌+◌, ◌≤◌, length};
 ghost use Rattle.model.specs.Bytes.{mid, within};
 ghost use Rattle.model.specs.Geometry.{allowed};
 ghost use Rattle.model.specs.Page.{numbered, expected};
@@ -13,7 +13,6 @@ pub fn copy_numbered(dst: &mut [u8], at: usize, src: &[u8], from: usize, size: u
     requires size_in_bounds { at + size ≤ length dst.old }
     requires size_in_bounds_2 { from + size ≤ length src.now }
     requires le_size { 64 ≤ size }
-    requires size_value { size % 64 ≡ 0 }
     ensures { dst.new ≡ within at size (λ _. numbered flush (mid from size src.now)) dst.old }
 {
     words::copy(dst, at, src, from, size);

@@ -10,6 +10,7 @@ const LISTED: usize = 36;
 
 const FILTER: usize = 64;
 
+// No `From`: neither type is of this crate.
 fn of_numbers(n: [u32; 7]) -> Geometry {
     Geometry {
         parts: n[0],
@@ -56,9 +57,9 @@ fn case_3(rt: &impl Print) {
 fn bits_of(rt: &impl Print, key: u64) {
     let mut memory = [0u8; 144];
     let mut flash = [0u8; 128];
-    index::format(&mut memory, &flash, g());
-    index::put(&mut memory, &mut flash, key, 10);
-    index::flush(&mut memory, &mut flash, 0);
+    let _ = index::format(&mut memory, &flash, g());
+    let _ = index::put(&mut memory, &mut flash, key, 10);
+    let _ = index::flush(&mut memory, &mut flash, 0);
     say::bits(rt, words::u64_at(&memory, FILTER));
 }
 
@@ -149,10 +150,10 @@ fn view<'a>(rt: &impl Print, memory: &'a [u8], flash: &'a [u8], flush: u32) {
 fn views(rt: &impl Print) {
     let mut memory = [0u8; 144];
     let mut flash = [0u8; 128];
-    index::format(&mut memory, &flash, g());
-    index::put(&mut memory, &mut flash, 1, 10);
+    let _ = index::format(&mut memory, &flash, g());
+    let _ = index::put(&mut memory, &mut flash, 1, 10);
     view(rt, &memory, &flash, 0);
-    index::flush(&mut memory, &mut flash, 0);
+    let _ = index::flush(&mut memory, &mut flash, 0);
     view(rt, &memory, &flash, 1);
     view(rt, &memory, &flash, 9);
 }

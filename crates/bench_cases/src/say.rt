@@ -1,5 +1,5 @@
 // What the cases print: numbers and answers, each behind a space.
-use answers::{Answer, Viewed, Written};
+use answers::{Answer, Refusal, Viewed};
 use model::Geometry;
 
 pub fn text(rt: &impl Print, bytes: &[u8]) {
@@ -40,15 +40,15 @@ pub fn bits(rt: &impl Print, filter: u64) {
     }
 }
 
-// An answer as the session prints it, without the byte that ends its line.
-pub fn written(rt: &impl Print, answer: Written) {
+// An answer as the session prints it, without the byte that ends its line. The line is an array, cut where the answer ends: the program has no heap.
+pub fn written(rt: &impl Print, answer: Result<u32, Refusal>) {
     let mut line = [0u8; 72];
     let end = printer::write_written(&mut line, 0, answer) - 1;
     text(rt, b" ");
     text(rt, &line[..end]);
 }
 
-pub fn answer(rt: &impl Print, answer: Answer) {
+pub fn answer(rt: &impl Print, answer: Result<Answer, Refusal>) {
     let mut line = [0u8; 72];
     let end = printer::write_answer(&mut line, 0, answer) - 1;
     text(rt, b" ");
@@ -63,11 +63,11 @@ fn pair(rt: &impl Print, word: &[u8], a: u64, b: u64) {
 }
 
 // The area that a viewed page is in, where it begins there and its bytes; or the refusal.
-pub fn outcome(rt: &impl Print, viewed: Viewed) {
+pub fn outcome(rt: &impl Print, viewed: Result<Viewed, Refusal>) {
     match viewed {
-        Viewed::Memory(at, size) => pair(rt, b" (memory", at as u64, size as u64),
-        Viewed::Flash(at, size) => pair(rt, b" (flash", at as u64, size as u64),
-        Viewed::Refused(r) => pair(rt, b" (refused", r.number as u64, r.reads as u64),
+        Ok(Viewed::Memory(at, size)) => pair(rt, b" (memory", at as u64, size as u64),
+        Ok(Viewed::Flash(at, size)) => pair(rt, b" (flash", at as u64, size as u64),
+        Err(r) => pair(rt, b" (refused", r.reason.number() as u64, r.reads as u64),
     }
 }
 
@@ -82,9 +82,7 @@ fn byte(rt: &impl Print, at: usize, b: u8) {
 // The length of what a view shows and, of a page, the head and the first entry.
 pub fn page(rt: &impl Print, shown: &[u8]) {
     number(rt, shown.len() as u64);
-    for i in 0..32usize {
-        if i < shown.len() {
-            byte(rt, i, shown[i]);
-        }
+    for (i, b) in shown.iter().take(32).enumerate() {
+        byte(rt, i, *b);
     }
 }

@@ -12,14 +12,11 @@ ghost use Rattle.model.specs.Format.{emptied_pages};
 ghost use Rattle.model.specs.Flush.{in_use};
 ghost use Rattle.model.specs.Put.{appends, buffered};
 ghost use Rattle.model.specs.Del.{unbuffered};
-ghost use Rattle.records.specs.Found.{found_at};
 ghost use Rattle.partition.specs.Ready.{Whole, Storable};
 
 use answers::Tally;
 use head::Head;
 use model::Geometry;
-use page_search::Searched;
-use records::Found;
 
 // The count of page q.
 pub fn count(part: &[u8], g: Geometry, q: u32) -> usize
@@ -50,12 +47,10 @@ pub fn is_some_page_overfull(part: &[u8], g: Geometry) -> bool
     requires { Whole g part.now }
     ensures { result ≡ some_page_overfull g part.now }
 {
-    let mut q = 0;
-    while q < g.pages {
+    for q in 0..g.pages {
         if is_page_overfull(part, g, q) {
             return true;
         }
-        q += 1;
     }
     false
 }
@@ -65,39 +60,37 @@ pub fn is_in_use(part: &[u8], g: Geometry) -> bool
     requires { Whole g part.now }
     ensures { result ≡ in_use g part.now }
 {
-    let mut q = 0;
-    while q < g.pages {
+    for q in 0..g.pages {
         if count(part, g, q) != 0 {
             return true;
         }
-        q += 1;
     }
     false
 }
 
 // The first entry of the key in page q.
-pub fn find(part: &[u8], g: Geometry, q: u32, key: u64) -> Found
+pub fn find(part: &[u8], g: Geometry, q: u32, key: u64) -> Option<usize>
     requires whole { Whole g part.now }
     requires q_lt_pages { q < g.pages }
     requires q_bound { count_of (buffer_of g part.now q) ≤ capacity g }
-    ensures { found_at result ≡ searched key (buffer_of g part.now q) }
+    ensures { result ≡ searched key (buffer_of g part.now q) }
 {
     let a = geometry::buffer_at(g, q);
     let e = a + g.page as usize;
     page::search(&part[a..e], key)
 }
 
-// The same with a tally, which grows by what the search compares.
-pub fn search(part: &[u8], g: Geometry, q: u32, key: u64, tally: Tally) -> Searched
+// The same with a tally lent, which grows by what the search compares.
+pub fn search(part: &[u8], g: Geometry, q: u32, key: u64, tally: &mut Tally) -> Option<usize>
     requires whole { Whole g part.now }
     requires q_lt_pages { q < g.pages }
     requires q_bound { count_of (buffer_of g part.now q) ≤ capacity g }
-    requires g_bound { tally.comparisons + capacity g < 2 ^ 32 }
-    ensures { (found_at result.found ≡ searched key (buffer_of g part.now q)) × (result.tally.reads ≡ tally.reads) × (result.tally.comparisons ≡ tally.comparisons + compared key (buffer_of g part.now q)) }
+    requires g_bound { tally.old.comparisons + capacity g < 2 ^ 32 }
+    ensures { (result ≡ searched key (buffer_of g part.now q)) × (tally.new.reads ≡ tally.old.reads) × (tally.new.comparisons ≡ tally.old.comparisons + compared key (buffer_of g part.now q)) }
 {
     let a = geometry::buffer_at(g, q);
     let e = a + g.page as usize;
-    page_search::search_with(&part[a..e], key, tally)
+    page_search::search(&part[a..e], key, tally)
 }
 
 // The value of entry i of page q.
@@ -158,10 +151,7 @@ pub fn empty_pages(part: &mut [u8], g: Geometry, t: u32)
     requires t_bound { t < partitions g }
     ensures { part.new ≡ emptied_pages g t g.pages part.old }
 {
-    let pages = g.pages;
-    let mut q = 0;
-    while q < pages {
+    for q in 0..g.pages {
         empty_page(part, g, t, q);
-        q += 1;
     }
 }

@@ -3,10 +3,12 @@
 
 ghost use Rattle.std.specs.Prelude.{true, ◌≡◌};
 ghost use Rattle.model.specs.Geometry.{allowed};
+ghost use Rattle.answers.specs.Told.{numbered};
 ghost use Rattle.model.specs.Card.{most_flushes, first_lost, figured};
 
+use answers::Reason;
 use geometry::{flash_need, is_allowed, memory_need, page_capacity};
-use model::{Card, Figured, Geometry};
+use model::{Card, Geometry};
 
 // The most flushes that the puts cause on a fresh table.
 fn most_flushes(g: Geometry, puts: u32) -> u32
@@ -28,13 +30,13 @@ fn first_lost(g: Geometry) -> u32
 }
 
 // The figures of any geometry, or refusal 1 as in format.
-pub fn figures(g: Geometry, puts: u32) -> Figured
-    ensures { result ≡ figured g puts }
+pub fn figures(g: Geometry, puts: u32) -> Result<Card, Reason>
+    ensures { numbered result ≡ figured g puts }
 {
     if !is_allowed(g) {
-        return Figured::Refused(1);
+        return Err(Reason::NotAllowed);
     }
-    Figured::Done(Card {
+    Ok(Card {
         memory: memory_need(g) as u64,
         flash: flash_need(g) as u64,
         flushes: most_flushes(g, puts) as u64,

@@ -2,7 +2,7 @@
 use Prim.Native.Nat.{ℕ}
 use mathlib.Core.Bool.{false}
 use mathlib.Core.Path.{◌≡◌, refl, sym}
-use mathlib.Core.Option.{none}
+use Rattle.std.specs.Prelude.{None}
 use native.Mathlib.Omega.{arith}
 use native.Mathlib.Nat.{mul-zero}
 use Rattle.model.specs.declared.Geometry.{Geometry}
@@ -23,10 +23,10 @@ use Rattle.carrying.proofs.Reaching as reaching
 use Rattle.carrying.proofs.Reaching.{At}
 
 start : (a : Areas) (g : Geometry) → is_refused (reply a (format g)) ≡ false
-    → At g 0 (after a (format g)) (given (λ k. none) (heard (format g) (reply a (format g)))) × (heard (format g) (reply a (format g)) ≡ turned_down → ⊥)
+    → At g 0 (after a (format g)) (given (λ k. None) (heard (format g) (reply a (format g)))) × (heard (format g) (reply a (format g)) ≡ turned_down → ⊥)
 start a g accepted =
     let passed = not-refused a (format g) accepted in
-    done-leaves a (format g) (λ a' e. At g 0 a' (given (λ k. none) e) × (e ≡ turned_down → ⊥)) 0 (result-format a g) passed (
+    done-leaves a (format g) (λ a' e. At g 0 a' (given (λ k. None) e) × (e ≡ turned_down → ⊥)) 0 (result-format a g) passed (
       record {
         paced = record {
           history = blank g;

@@ -3,7 +3,7 @@ use Prim.Native.Nat.{ℕ, suc, ◌+◌, ◌*◌, ◌%◌, ◌^◌, ◌≤◌, �
 use mathlib.Core.Bool.{cond}
 use mathlib.Core.Path.{◌≡◌, refl, ◌∙◌}
 use mathlib.Core.List.{List, []}
-use mathlib.Core.Option.{Option, none, some}
+use Rattle.std.specs.Prelude.{Option, None, Some}
 use native.Mathlib.Omega.{arith}
 use native.Mathlib.Nat.{mul-le-mul_left}
 use lib.Dec.{eqb, ltb}
@@ -15,16 +15,16 @@ use Rattle.history.proofs.Told.{Told, listed, absent, present}
 
 -- not known, or of at least this age
 abbrev pub Aged : ℕ → Option Known → Type 0
-Aged m none = Unit {0}
-Aged m (some w) = m ≤ w.age
+Aged m None = Unit {0}
+Aged m (Some w) = m ≤ w.age
 
 aged-more : (K m : ℕ) (o : Option Known) → Aged m o → Aged (suc m) (older K o)
 unfolding older
-aged-more K m none old = tt
-aged-more K m (some w) old = either (ltb K (w.age + 1)) (λ e. simp e tt) (λ e. simp e (omega arith))
+aged-more K m None old = tt
+aged-more K m (Some w) old = either (ltb K (w.age + 1)) (λ e. simp e tt) (λ e. simp e (omega arith))
 
 -- no place is that old
-pub too-old : {live F : ℕ} {m : Option ℕ} {f : ℕ → Option ℕ} {w : Option Known} → Told live F m f w → (age : ℕ) → live < age → Aged age w → w ≡ none
+pub too-old : {live F : ℕ} {m : Option ℕ} {f : ℕ → Option ℕ} {w : Option Known} → Told live F m f w → (age : ℕ) → live < age → Aged age w → w ≡ None
 too-old (listed silent) age gone old = refl
 too-old (absent silent) age gone old = refl
 too-old (present here fits silent) age gone old = absurd (omega arith)
@@ -33,14 +33,14 @@ too-old (present here fits silent) age gone old = absurd (omega arith)
 -- Of the puts to come, the page lacks the key of each that is less than 2^18 puts behind the first that it holds.
 pub record Filled (E n F : ℕ) (l : List Entry) (o : Option Known) : Type 0 where
   pub puts : F * E + length l ≡ n
-  pub later : (i : ℕ) → n ≤ i → i + length l < n + 2 ^ 18 → find (i % 2 ^ 18) l ≡ none
+  pub later : (i : ℕ) → n ≤ i → i + length l < n + 2 ^ 18 → find (i % 2 ^ 18) l ≡ None
   pub first : n ≤ 2 ^ 18 → Aged F o
 
-nothing-found : (k : ℕ) → find k [] ≡ none
+nothing-found : (k : ℕ) → find k [] ≡ None
 unfolding find
 nothing-found k = refl
 
-pub filled_none : (E : ℕ) → Filled E 0 0 [] none
+pub filled_none : (E : ℕ) → Filled E 0 0 [] None
 filled_none E = record { puts = omega arith; later = λ i l h. nothing-found (i % 2 ^ 18); first = λ h. tt }
 
 module _ {E n F : ℕ} {l : List Entry} {o : Option Known} (at : Filled E n F l o) where
@@ -51,10 +51,10 @@ module _ {E n F : ℕ} {l : List Entry} {o : Option Known} (at : Filled E n F l 
     abbrev key : ℕ
     key = n % 2 ^ 18
 
-    pub key-new : find key l ≡ none
+    pub key-new : find key l ≡ None
     key-new = at.later n (omega arith) (omega arith)
 
-    pub filled_put : 0 < E → Filled E (suc n) F (store key 1 l) (cond (eqb 0 key) (some (record { value = 1; age = 0 })) o)
+    pub filled_put : 0 < E → Filled E (suc n) F (store key 1 l) (cond (eqb 0 key) (Some (record { value = 1; age = 0 })) o)
     filled_put some-room =
         let long : length (store key 1 l) ≡ suc (length l) = rw (length-store key 1 l, key-new) in
         record {

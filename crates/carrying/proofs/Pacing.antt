@@ -3,7 +3,7 @@ use Prim.Native.Nat.{ℕ, suc, ◌+◌, ◌-◌, ◌*◌, ◌^◌, ◌≤◌, �
 use mathlib.Core.Bool.{Bool, true, false, cond}
 use mathlib.Core.Path.{◌≡◌, refl, ◌∙◌, ap}
 use mathlib.Core.List.{List, [], ◌∷◌}
-use mathlib.Core.Option.{Option, none, some}
+use Rattle.std.specs.Prelude.{Option, None, Some}
 use native.Mathlib.Omega.{arith}
 use native.Mathlib.Numerals.{add-one}
 use native.Mathlib.Nat.{add-zero, mul_assoc, mul-le-mul_left, le_of_mul-le-mul_left, lt_of_mul-lt-mul_right, le-div_iff_mul-le}
@@ -73,7 +73,7 @@ older-stays K (absent silent) young = refl
 older-stays K (present {v = v} {a = a} here fits silent) young = rw (older-kept K v a (omega arith)) refl
 
 -- at age 0 it is in its buffer page
-new-held : {live F v : ℕ} {m : Option ℕ} {f : ℕ → Option ℕ} (k : ℕ) (l : List Entry) → Told live F m f (some (record { value = v; age = 0 })) → f 0 ≡ find k l → 1 ≤ length l
+new-held : {live F v : ℕ} {m : Option ℕ} {f : ℕ → Option ℕ} (k : ℕ) (l : List Entry) → Told live F m f (Some (record { value = v; age = 0 })) → f 0 ≡ find k l → 1 ≤ length l
 unfolding find
 new-held k [] (present here fits silent) e = let z : ◌≡◌ {A = ℕ} 0 1 = cc in absurd (omega arith)
 new-held k (x ∷ l) told e = omega arith
@@ -93,7 +93,7 @@ pub record Paced (g : Geometry) (n : ℕ) (a : Areas) (d : ℕ → Option ℕ) :
   pub kept : flushes_in g in_step.table ≤ g.kept → (k : ℕ) → k < 2 ^ 64 → value_of (history.keys k) ≡ d k
 
 -- Of what puts have brought in, Q each, that of the latest is not yet spent: its entry is in the buffer.
-pub unspent : (a : Areas) (h : History) (inv : InStep a h) (k v : ℕ) → k < 2 ^ 64 → h.keys k ≡ some (record { value = v; age = 0 })
+pub unspent : (a : Areas) (h : History) (inv : InStep a h) (k v : ℕ) → k < 2 ^ 64 → h.keys k ≡ Some (record { value = v; age = 0 })
     → h.put_pages ≡ h.geometry.pages * flushes_in h.geometry inv.table → flushes_in h.geometry inv.table * capacity h.geometry < h.puts
 unspent a h inv k v hk known paid =
     let g = h.geometry in
@@ -139,11 +139,11 @@ module _ {g : Geometry} {n : ℕ} {a : Areas} {d : ℕ → Option ℕ} (at : Pac
     pub below : partition_of g k < partitions g
     below = partition-of-lt g inv.shows.ok k hk
 
-    del-paced : checks a (del k) ≡ none → Paced g n (effect a (del k)) (given d (deleting k))
+    del-paced : checks a (del k) ≡ None → Paced g n (effect a (del k)) (given d (deleting k))
     del-paced e =
         let same = del-flushes g ps k below in
         record {
-          history = with_key k none h;
+          history = with_key k None h;
           in_step = by-table (del-kept a h inv k hk e);
           puts = at.puts;
           paid = rw same at.paid;
@@ -153,11 +153,11 @@ module _ {g : Geometry} {n : ℕ} {a : Areas} {d : ℕ → Option ℕ} (at : Pac
 
     module _ (v : ℕ) (hv : v < 2 ^ 64) where
       -- x is the history with the put's flush, or without one
-      abbrev pub put-paced-by : (x : History) (m : ℕ) {ps' : ℕ → Part} → InStepBy (effect a (put k v)) (under g (counted m (with_key k (some (record { value = v; age = 0 })) x))) ps'
+      abbrev pub put-paced-by : (x : History) (m : ℕ) {ps' : ℕ → Part} → InStepBy (effect a (put k v)) (under g (counted m (with_key k (Some (record { value = v; age = 0 })) x))) ps'
           → x.puts ≤ n → x.put_pages + m ≡ g.pages * flushes_in g ps' → (flushes_in g ps' ≤ g.kept → (j : ℕ) → j < 2 ^ 64 → value_of (x.keys j) ≡ d j)
           → Paced g (suc n) (effect a (put k v)) (given d (putting k v 0))
       put-paced-by x m by puts paid stays = record {
-        history = counted m (with_key k (some (record { value = v; age = 0 })) x);
+        history = counted m (with_key k (Some (record { value = v; age = 0 })) x);
         in_step = by-table by;
         puts = omega arith;
         paid = paid;
@@ -165,7 +165,7 @@ module _ {g : Geometry} {n : ℕ} {a : Areas} {d : ℕ → Option ℕ} (at : Pac
         kept = λ l j hj. cond_both (λ o v. value_of o ≡ v) (eqb j k) refl (stays l j hj);
       }
 
-      abbrev pub put-paced : checks a (put k v) ≡ none → (b : Bool) → due g k (ps (partition_of g k)) ≡ b → Paced g (suc n) (effect a (put k v)) (given d (putting k v 0))
+      abbrev pub put-paced : checks a (put k v) ≡ None → (b : Bool) → due g k (ps (partition_of g k)) ≡ b → Paced g (suc n) (effect a (put k v)) (given d (putting k v 0))
       put-paced e false is =
           let same = put-flushes g ps k below v false in
           put-paced-by h 0 (put-kept a h inv k hk v hv e false is) at.puts (rw same (omega (arith, at.paid))) (λ l. at.kept (rw same at l))
@@ -197,11 +197,11 @@ module _ {g : Geometry} {n : ℕ} {a : Areas} {d : ℕ → Option ℕ} (at : Pac
   unfolding most_flushes
   few-flushes = rw (done-flushes a h inv) ((le-div_iff_mul-le inv.good.fine.some_entry).1 at.few)
 
-  pub none-lost : n < first_lost g → (k : ℕ) → k < 2 ^ 64 → said (reply a (get k)) ≡ some (d k)
+  pub none-lost : n < first_lost g → (k : ℕ) → k < 2 ^ 64 → said (reply a (get k)) ≡ Some (d k)
   unfolding first_lost
   none-lost early k hk =
       let few : F < g.kept + 1 = lt_of_mul-lt-mul_right (capacity g) (omega (arith, early, at.few, inv.good.fine.some_entry)) in
-      says a h inv k hk ∙ ap some (at.kept (omega arith) k hk)
+      says a h inv k hk ∙ ap Some (at.kept (omega arith) k hk)
 
 pub along : {g : Geometry} (cs : List Call) → AllFit cs → AllBetween cs → (n m : ℕ) → n + puts_in cs ≡ m → (a : Areas) (d : ℕ → Option ℕ) → Paced g n a d
     → Paced g m (run a cs) (last_put d (events a cs))

@@ -2,7 +2,7 @@
 use Prim.Native.Nat.{ℕ, zero, suc, ◌+◌, ◌-◌, ◌*◌, ◌%◌, ◌^◌, ◌<◌}
 use mathlib.Core.Bool.{Bool, true, false, and-false}
 use mathlib.Core.Path.{◌≡◌, refl, sym, ◌∙◌, ap}
-use mathlib.Core.Option.{Option, none, some}
+use Rattle.std.specs.Prelude.{Option, None, Some}
 use native.Mathlib.Omega.{arith}
 use native.Mathlib.Nat.{mod-lt, mul-le-mul_left, mul-le-mul_right, lt_of_mul-lt-mul_right, div-eq_of_lt-le, add-zero}
 use lib.Dec.{eqb}
@@ -37,7 +37,7 @@ use Rattle.carrying.proofs.Filling.{too-old, Filled, filled-flush, key-new, fill
 pub record At (g : Geometry) (n : ℕ) (a : Areas) (d : ℕ → Option ℕ) : Type 0 where
   pub paced : Paced g n a d
   pub filled : Filled (capacity g) n (paced.in_step.table 0).flushes ((paced.in_step.table 0).buffer 0) (paced.history.keys 0)
-  pub last : 0 < n → d 0 ≡ some 1
+  pub last : 0 < n → d 0 ≡ Some 1
 
 module _ {g : Geometry} {n : ℕ} {a : Areas} {d : ℕ → Option ℕ} (at : At g n a d) where
   abbrev inv : InStep a (under g at.paced.history)
@@ -56,12 +56,12 @@ module _ {g : Geometry} {n : ℕ} {a : Areas} {d : ℕ → Option ℕ} (at : At 
       let reached : n - 1 < (s.flushes + 1) * capacity g = omega (arith, at.filled.puts, (inv.good.core.parts 0).fits 0, bounds.capacity-min) in
       rw (done-flushes a _ inv) (sym (div-eq_of_lt-le (capacity g) at.paced.few (omega (arith, reached, mul-le-mul_right (capacity g) own))))
 
-  pub first-lost : n ≡ first_lost g → said (reply a (get 0)) ≡ some none
+  pub first-lost : n ≡ first_lost g → said (reply a (get 0)) ≡ Some None
   unfolding first_lost
   first-lost e =
       let often : g.kept < s.flushes = lt_of_mul-lt-mul_right (capacity g) (omega (arith, e, at.filled.puts, (inv.good.core.parts 0).fits 0)) in
       says a _ inv 0 (omega arith)
-      ∙ ap (λ w. some (value_of w)) (too-old (inv.good.core.keys 0) s.flushes (omega (arith, often, (inv.good.core.parts (partition_of g 0)).live_kept)) (at.filled.first (omega (arith, e, lost-max g inv.shows.ok))))
+      ∙ ap (λ w. Some (value_of w)) (too-old (inv.good.core.keys 0) s.flushes (omega (arith, often, (inv.good.core.parts (partition_of g 0)).live_kept)) (at.filled.first (omega (arith, e, lost-max g inv.shows.ok))))
 
   -- ---- the next put
   abbrev key : ℕ
@@ -86,11 +86,11 @@ module _ {g : Geometry} {n : ℕ} {a : Areas} {d : ℕ → Option ℕ} (at : At 
   unfolding due
   is-due = rw (here key small, small-page g key small, key-new at.filled short)
 
-  put_last : given d (putting key 1 0) 0 ≡ some 1
+  put_last : given d (putting key 1 0) 0 ≡ Some 1
   put_last = either (eqb 0 key) (λ e. simp e) (λ e. simp (e, at.last (omega numbers)))
 
   module _ (more : suc n < 2 ^ 32) where
-    passes : checks a (put key 1) ≡ none
+    passes : checks a (put key 1) ≡ None
     passes =
         let left : (inv.table (partition_of g key)).flushes ≡ last_flush → ⊥ = rw (here key small) (λ e. omega (arith, at.filled.puts, mul-le-mul_left s.flushes bounds.capacity-min)) in
         put-checks inv key wide 1 ∙ rw (a-position 1 (omega arith), ne_eqb _ last_flush left, and-false) refl

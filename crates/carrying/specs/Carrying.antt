@@ -1,6 +1,5 @@
 -- What a card carries, beside demand 3: no calls go beyond its figures, and one list of puts reaches them (02, job 7).
-use Rattle.std.specs.Prelude.{ℕ, zero, suc, ◌+◌, ◌%◌, ◌^◌, ◌≤◌, ◌<◌, false, cond, ◌≡◌, List, [], ◌∷◌, eqb}
-use Rattle.std.proofs.Math.Option.{Option, none, some}
+use Rattle.std.specs.Prelude.{ℕ, zero, suc, ◌+◌, ◌%◌, ◌^◌, ◌≤◌, ◌<◌, false, cond, ◌≡◌, List, [], ◌∷◌, eqb, Option, None, Some}
 use Rattle.model.specs.declared.Geometry.{Geometry}
 use Rattle.model.specs.Geometry.{partitions}
 use Rattle.model.specs.Card.{most_flushes, first_lost}
@@ -49,9 +48,9 @@ flushes_done a = sum (partitions (geometry_in a)) (λ t. flushes_of (partition_i
 
 -- Of each key the value that was put last, and none where it was deleted since: a history that loses nothing.
 abbrev pub given : (ℕ → Option ℕ) → Event → ℕ → Option ℕ
-given d (formatted g) = λ k. none
-given d (putting j v n) = λ k. cond (eqb k j) (some v) (d k)
-given d (deleting j) = λ k. cond (eqb k j) none (d k)
+given d (formatted g) = λ k. None
+given d (putting j v n) = λ k. cond (eqb k j) (Some v) (d k)
+given d (deleting j) = λ k. cond (eqb k j) None (d k)
 given d (flushing t) = d
 given d (dropping t) = d
 given d looking = d
@@ -63,12 +62,12 @@ last_put d (e ∷ es) = last_put (given d e) es
 
 -- of all that was heard, from nothing on
 abbrev pub put_since : List Event → ℕ → Option ℕ
-put_since es = last_put (λ k. none) es
+put_since es = last_put (λ k. None) es
 
 -- No more flushes than so many puts can cause; and with fewer puts than can lose a key, a get of every key says what was put last.
 pub record Within (g : Geometry) (cs : List Call) (b : Areas) (es : List Event) : Type 0 where
   pub flushes : flushes_done b ≤ most_flushes g (puts_in cs)
-  pub kept : puts_in cs < first_lost g → (k : ℕ) → k < 2 ^ 64 → said (reply b (get k)) ≡ some (put_since es k)
+  pub kept : puts_in cs < first_lost g → (k : ℕ) → k < 2 ^ 64 → said (reply b (get k)) ≡ Some (put_since es k)
 
 -- n puts of keys that share page 0 of partition 0 in every geometry: put i, from 0, has the key i mod 2^18.
 unfoldable pub one_page_from : ℕ → ℕ → List Call
@@ -84,8 +83,8 @@ NoneRefused (e ∷ es) = (e ≡ turned_down → ⊥) × NoneRefused es
 
 -- The key is lost: it was put, with this value, and not deleted since, and a get says none.
 pub record Lost (k v : ℕ) (b : Areas) (es : List Event) : Type 0 where
-  pub last : put_since es k ≡ some v
-  pub gone : said (reply b (get k)) ≡ some none
+  pub last : put_since es k ≡ Some v
+  pub gone : said (reply b (get k)) ≡ Some None
 
 -- After n of them. Put (K + 1) × E + 1, which comes at 8416 at the latest, loses the key of the first.
 pub record Reached (g : Geometry) (n : ℕ) (b : Areas) (es : List Event) : Type 0 where

@@ -1,10 +1,9 @@
 -- "Bench cases (P: proved)": what the definitions give, beside what the paper says. Then cases of document 02's jobs.
-use Rattle.std.specs.Prelude.{ℕ, ◌≡◌, List, [], ◌∷◌, ◌++◌, map, take}
+use Rattle.std.specs.Prelude.{ℕ, ◌≡◌, List, [], ◌∷◌, ◌++◌, map, take, Option, None, Some, Result, Ok, Err}
 use Prim.Native.String.{String}
-use Rattle.std.proofs.Math.Option.{Option, none, some}
 use Rattle.std.proofs.Math.ListN as lists
 use Rattle.model.specs.declared.Geometry.{Geometry}
-use Rattle.model.specs.declared.Figured.{Figured}
+use Rattle.model.specs.declared.Card.{Card}
 use Rattle.model.specs.Bytes.{write, zeros}
 use Rattle.model.specs.Geometry.{geometry, G, capacity, memory_need, flash_need}
 use Rattle.model.specs.Card.{figured}
@@ -70,9 +69,9 @@ all_figures (a ∷ l) = figures a ∷ all_figures l
 abbrev pub card_with : ℕ → ℕ → ℕ → ℕ → List ℕ
 card_with memory flash flushes lost = 0 ∷ memory ∷ flash ∷ flushes ∷ lost ∷ []
 
-abbrev pub told : Figured → List ℕ
-told (Figured.Done c) = card_with c.memory c.flash c.flushes c.first_lost
-told (Figured.Refused n) = refused_with n 0
+abbrev pub told : Result Card ℕ → List ℕ
+told (Ok c) = card_with c.memory c.flash c.flushes c.first_lost
+told (Err n) = refused_with n 0
 
 unfoldable pub carried : Geometry → ℕ → List ℕ
 carried g n = told (figured g n)
@@ -117,8 +116,8 @@ unfoldable pub written : (List ℕ → List ℕ) → List (List ℕ)
 written memory = let f = with_batch_page G 0 (two_put memory) 0 (sevens 128) in take 20 f ∷ take 20 (lists.drop 64 f) ∷ []
 
 abbrev pub refusal : Option Refusal → List ℕ
-refusal none = ok 0
-refusal (some r) = refused_with r.number r.reads
+refusal None = ok 0
+refusal (Some r) = refused_with r.number r.reads
 
 -- what is checked before: page q of partition t
 unfoldable pub writing : (List ℕ → List ℕ) → ℕ → ℕ → List ℕ

@@ -7,27 +7,21 @@ ghost use Rattle.answers.specs.Told.{written};
 ghost use Rattle.answers.specs.Performs.{Performs};
 ghost use Rattle.opening.specs.Opened.{IsTable};
 
-use answers::{Refusal, Written};
+use answers::{Reason, Refusal};
 use head::Head;
 use model::Geometry;
 
 // 4, 12, or the total that the head says.
-pub fn call(memory: &[u8], flash: &[u8], g: Geometry, t: u32) -> Written
+pub fn call(memory: &[u8], flash: &[u8], g: Geometry, t: u32) -> Result<u32, Refusal>
     requires { IsTable g memory.now flash.now }
     ensures { Performs (Call.count t) memory.now flash.now (written result) memory.now flash.now }
 {
     if geometry::partition_count(g) <= t {
-        return Written::Refused(Refusal {
-            number: 4,
-            reads: 0,
-        });
+        return Err(Reason::NoSuchPart.into());
     }
     let head = Head::read(partition::part_of(memory, g, t));
     if head.is_overfull(g) {
-        return Written::Refused(Refusal {
-            number: 12,
-            reads: 0,
-        });
+        return Err(Reason::Overfull.into());
     }
-    Written::Done(head.total)
+    Ok(head.total)
 }

@@ -1,8 +1,7 @@
 // The delete: in one partition, and as a call on whole areas.
 #![tactic(auto)]
 
-ghost use Rattle.std.specs.Prelude.{true, false, ◌≡◌, ◌≤◌, ◌<◌, length};
-ghost use Rattle.std.proofs.Math.Option.{some};
+ghost use Rattle.std.specs.Prelude.{true, false, ◌≡◌, ◌≤◌, ◌<◌, length, Some};
 ghost use Rattle.model.specs.Bytes.{within};
 ghost use Rattle.model.specs.Geometry.{allowed, stride, partition_at, memory_need};
 ghost use Rattle.model.specs.Keys.{partition_of, page_of};
@@ -12,104 +11,80 @@ ghost use Rattle.model.specs.Refusals.{head_overfull, key_overfull};
 ghost use Rattle.model.specs.Del.{stamp_for, unbuffered, listed_with};
 ghost use Rattle.model.specs.Calls.{Call};
 ghost use Rattle.partition.specs.Ready.{Whole};
-ghost use Rattle.answers.specs.Told.{written};
+ghost use Rattle.answers.specs.Told.{told_unread, written};
 ghost use Rattle.answers.specs.Performs.{Performs};
 ghost use Rattle.opening.specs.Opened.{IsTable};
-ghost use Rattle.del.specs.Plans.{stamp, plan_removal, plan_listing, plan_for, Listable};
+ghost use Rattle.del.specs.Plans.{plan_removal, plan_listing, plan_for, Listable};
 
-use answers::{Refusal, Written};
+use answers::{Reason, Refusal};
 use head::Head;
 use model::Geometry;
-use records::Found;
 
-// The youngest live batch whose filter passes a key, if there is one.
-#[derive(Clone, Copy)]
-pub enum Youngest {
-    Batch(u32),
-    Nowhere,
-}
-
-// What a del does: refuse, nothing for a listed key, or take the key out of the buffer and list it with this batch.
+// What a del does: nothing for a listed key; or it takes the key out of the buffer, and lists it with a batch that may hold it. No `Option` of an `Option`, whose two `None`s would be told apart by place alone.
 #[derive(Clone, Copy)]
 pub enum Plan {
-    Refused(Refusal),
     Nothing,
-    Remove(Youngest),
+    Remove(Option<u32>),
 }
 
-fn stamp_for(part: &[u8], g: Geometry, key: u64) -> Youngest
+// The youngest live batch whose filter passes the key, if there is one.
+fn stamp_for(part: &[u8], g: Geometry, key: u64) -> Option<u32>
     requires whole { Whole g part.now }
     requires part_value { head_overfull g (head_of part.now) ≡ false }
-    ensures { stamp result ≡ stamp_for g key part.now }
+    ensures { result ≡ stamp_for g key part.now }
 {
     let x = keys::mix(key);
     let head = Head::read(part);
-    let mut n = head.flushes;
-    let mut slot = n % g.kept;
-    let mut count = head.live;
-    while 0 < count {
+    let mut slot = head.flushes % g.kept;
+    for age in 0..head.live {
         slot = geometry::slot_before(g, slot);
         if filter::passes(part, g, slot, x) {
-            return Youngest::Batch(n);
+            return Some(head.flushes - age);
         }
-        n -= 1;
-        count -= 1;
     }
-    Youngest::Nowhere
+    None
 }
 
 // 12 for a key in its page that the total does not count. Only a total of 0 has the page searched.
-fn plan_removal(part: &[u8], g: Geometry, key: u64, youngest: Youngest) -> Plan
+fn plan_removal(part: &[u8], g: Geometry, key: u64, youngest: Option<u32>) -> Result<Plan, Reason>
     requires whole { Whole g part.now }
     requires part_value { key_overfull g key part.now ≡ false }
-    ensures { result ≡ plan_removal g key youngest part.now }
+    ensures { told_unread result ≡ plan_removal g key youngest part.now }
 {
-    if Head::read(part).total != 0 {
-        return Plan::Remove(youngest);
+    let total = Head::read(part).total;
+    if total != 0 {
+        return Ok(Plan::Remove(youngest));
     }
     match buffer::find(part, g, keys::page_of(g, key), key) {
-        Found::At(_) => Plan::Refused(Refusal {
-            number: 12,
-            reads: 0,
-        }),
-        Found::Nothing => Plan::Remove(youngest),
+        Some(_) => Err(Reason::Overfull),
+        None => Ok(Plan::Remove(youngest)),
     }
 }
 
 // 14 for a key that must be listed and finds no place, then 12.
-fn plan_listing(part: &[u8], g: Geometry, key: u64) -> Plan
+fn plan_listing(part: &[u8], g: Geometry, key: u64) -> Result<Plan, Reason>
     requires whole { Whole g part.now }
     requires part_value { key_overfull g key part.now ≡ false }
-    ensures { result ≡ plan_listing g key part.now }
+    ensures { told_unread result ≡ plan_listing g key part.now }
 {
-    match stamp_for(part, g, key) {
-        Youngest::Batch(n) => {
-            if Head::read(part).listed == g.list {
-                return Plan::Refused(Refusal {
-                    number: 14,
-                    reads: 0,
-                });
-            }
-            plan_removal(part, g, key, Youngest::Batch(n))
-        }
-        Youngest::Nowhere => plan_removal(part, g, key, Youngest::Nowhere),
+    let youngest = stamp_for(part, g, key);
+    if youngest.is_some() && Head::read(part).listed == g.list {
+        return Err(Reason::ListFull);
     }
+    plan_removal(part, g, key, youngest)
 }
 
 // 12, 14, 12; and what is to be done.
-pub fn decide(part: &[u8], g: Geometry, key: u64) -> Plan
+pub fn decide(part: &[u8], g: Geometry, key: u64) -> Result<Plan, Reason>
     requires { Whole g part.now }
-    ensures { result ≡ plan_for g key part.now }
+    ensures { told_unread result ≡ plan_for g key part.now }
 {
     if buffer::is_key_overfull(part, g, key) {
-        return Plan::Refused(Refusal {
-            number: 12,
-            reads: 0,
-        });
+        return Err(Reason::Overfull);
     }
     match list::find(part, g, key) {
-        Found::At(_) => Plan::Nothing,
-        Found::Nothing => plan_listing(part, g, key),
+        Some(_) => Ok(Plan::Nothing),
+        None => plan_listing(part, g, key),
     }
 }
 
@@ -117,7 +92,7 @@ pub fn decide(part: &[u8], g: Geometry, key: u64) -> Plan
 fn list(part: &mut [u8], g: Geometry, key: u64, batch: u32)
     requires whole { Whole g part.old }
     requires part_bound { listed_of part.old < g.list }
-    ensures { part.new ≡ listed_with (some batch) g key part.old }
+    ensures { part.new ≡ listed_with (Some batch) g key part.old }
 {
     let head = Head::read(part);
     list::enlist(part, g, head.listed as usize, key, batch);
@@ -125,25 +100,24 @@ fn list(part: &mut [u8], g: Geometry, key: u64, batch: u32)
 }
 
 // The key's first entry leaves its buffer page and the total, and the key is listed where a batch's filter passes it.
-fn apply(part: &mut [u8], g: Geometry, key: u64, youngest: Youngest)
+fn apply(part: &mut [u8], g: Geometry, key: u64, youngest: Option<u32>)
     requires whole { Whole g part.old }
-    requires listable { Listable g key (stamp youngest) part.old }
-    ensures { part.new ≡ totalled 0 (taken key (buffer_of g part.old (page_of g key))) (listed_with (stamp youngest) g key (unbuffered g key part.old)) }
+    requires listable { Listable g key youngest part.old }
+    ensures { part.new ≡ totalled 0 (taken key (buffer_of g part.old (page_of g key))) (listed_with youngest g key (unbuffered g key part.old)) }
 {
     let less = buffer::drop_key(part, g, key);
-    match youngest {
-        Youngest::Batch(n) => list(part, g, key, n),
-        Youngest::Nowhere => {}
+    if let Some(batch) = youngest {
+        list(part, g, key, batch);
     }
     head::change_total(part, 0, less);
 }
 
 // The same in the key's partition of memory.
-fn apply_at(memory: &mut [u8], g: Geometry, key: u64, youngest: Youngest)
+fn apply_at(memory: &mut [u8], g: Geometry, key: u64, youngest: Option<u32>)
     requires g_value { allowed g ≡ true }
     requires g_in_bounds { memory_need g ≤ length memory.old }
-    requires listable { Listable g key (stamp youngest) (partition g (partition_of g key) memory.old) }
-    ensures { memory.new ≡ within (partition_at g (partition_of g key)) (stride g) (λ p. totalled 0 (taken key (buffer_of g p (page_of g key))) (listed_with (stamp youngest) g key (unbuffered g key p))) memory.old }
+    requires listable { Listable g key youngest (partition g (partition_of g key) memory.old) }
+    ensures { memory.new ≡ within (partition_at g (partition_of g key)) (stride g) (λ p. totalled 0 (taken key (buffer_of g p (page_of g key))) (listed_with youngest g key (unbuffered g key p))) memory.old }
 {
     let a = keys::key_partition_at(g, key);
     let e = a + geometry::partition_size(g);
@@ -151,16 +125,13 @@ fn apply_at(memory: &mut [u8], g: Geometry, key: u64, youngest: Youngest)
 }
 
 // The whole call on an opened table.
-pub fn call(memory: &mut [u8], flash: &[u8], g: Geometry, key: u64) -> Written
+pub fn call(memory: &mut [u8], flash: &[u8], g: Geometry, key: u64) -> Result<u32, Refusal>
     requires { IsTable g memory.old flash.now }
     ensures { Performs (Call.del key) memory.old flash.now (written result) memory.new flash.now }
 {
-    match decide(partition::part_of_key(memory, g, key), g, key) {
-        Plan::Refused(refusal) => Written::Refused(refusal),
-        Plan::Nothing => Written::Done(0),
-        Plan::Remove(youngest) => {
-            apply_at(memory, g, key, youngest);
-            Written::Done(0)
-        }
+    let plan = decide(partition::part_of_key(memory, g, key), g, key)?;
+    if let Plan::Remove(youngest) = plan {
+        apply_at(memory, g, key, youngest);
     }
+    Ok(0)
 }

@@ -3,14 +3,11 @@
 
 ghost use Rattle.std.specs.Prelude.{◌≡◌, ◌+◌, ◌*◌, ◌≤◌, ◌<◌, length};
 ghost use Rattle.model.specs.DeleteList.{listed_at, enlisted, struck, expired, unexpired};
-ghost use Rattle.records.specs.Found.{found_at};
-
-use records::Found;
 
 // The first entry of the key.
-pub fn find(list: &[u8], n: usize, key: u64) -> Found
+pub fn find(list: &[u8], n: usize, key: u64) -> Option<usize>
     requires { 16 * n ≤ length list.now }
-    ensures { found_at result ≡ listed_at n key list.now }
+    ensures { result ≡ listed_at n key list.now }
 {
     records::search(list, key, n, 0)
 }
@@ -41,14 +38,12 @@ pub fn expire(list: &mut [u8], n: usize, back: u32, flushes: u32) -> usize
 {
     let last = flushes as u64 + 1;
     let mut stay = 0;
-    let mut i = 0;
-    while i < n {
+    for i in 0..n {
         let stamp = words::u32_at(list, 16 * i + 8) as u64;
         if stamp + back as u64 != last {
             words::move_down(list, 16 * stay, 16 * i, 16);
             stay += 1;
         }
-        i += 1;
     }
     words::zero(list, 16 * stay, 16 * (n - stay));
     stay

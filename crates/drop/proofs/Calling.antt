@@ -1,7 +1,7 @@
 -- What the call performs, from what was decided and from what was done to the partition.
 use Prim.Native.Nat.{ℕ}
 use mathlib.Core.List.{List}
-use mathlib.Core.Option.{none}
+use Rattle.std.specs.Prelude.{None, Ok, Err}
 use mathlib.Core.Path.{◌≡◌, refl, sym, ◌∙◌}
 use native.Mathlib.Omega.{arith}
 use Rattle.model.specs.declared.Geometry.{Geometry}
@@ -21,7 +21,6 @@ use Rattle.answers.specs.Told.{as_refusal, refusing}
 use Rattle.answers.specs.Performs.{areas, Performs}
 use Rattle.answers.proofs.Performing as performing
 use Rattle.opening.specs.Opened.{IsTable}
-use Rattle.outgoing.specs.declared.Leaving.TheVariants.{Refused, Entries}
 use Rattle.outgoing.proofs.Deciding.{refused-by, passed-with}
 use Rattle.drop.specs.Plans.{plan_for, Droppable}
 
@@ -32,15 +31,15 @@ module _ (g : Geometry) (m f : List ℕ) (table : IsTable g m f) (t : ℕ) where
   checked : checks (areas m f) (Call.drop t) ≡ drop_checks g t own f
   checked = checks-drop (areas m f) g table.own table.opens t
 
-  pub refuses : (r : Refusal) → plan_for g t own f ≡ Refused r → Performs (Call.drop t) m f (refusing r) m f
+  pub refuses : (r : Refusal) → Err (as_refusal r) ≡ plan_for g t own f → Performs (Call.drop t) m f (refusing r) m f
   unfolding plan_for
-  refuses r h = performing.refusing (Call.drop t) m f (as_refusal r) (checked ∙ refused-by _ _ r h)
+  refuses r h = performing.refusing (Call.drop t) m f (as_refusal r) (checked ∙ refused-by _ _ _ (sym h))
 
   -- ---- nothing refuses it, and so many entries leave
-  module _ (less : ℕ) (h : plan_for g t own f ≡ Entries less) where
-    passed : (drop_checks g t own f ≡ none) × (less ≡ oldest_entries g t own f)
+  module _ (less : ℕ) (h : Ok less ≡ plan_for g t own f) where
+    passed : (drop_checks g t own f ≡ None) × (less ≡ oldest_entries g t own f)
     unfolding plan_for
-    passed = passed-with _ _ less h
+    passed = passed-with _ _ less (sym h)
 
     pub can-drop : Droppable g less own
     can-drop =

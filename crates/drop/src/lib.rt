@@ -8,49 +8,35 @@ ghost use Rattle.model.specs.Partition.{partition};
 ghost use Rattle.model.specs.Drop.{dropped};
 ghost use Rattle.model.specs.Calls.{Call};
 ghost use Rattle.partition.specs.Ready.{Whole};
-ghost use Rattle.answers.specs.Told.{written};
+ghost use Rattle.answers.specs.Told.{told, written};
 ghost use Rattle.answers.specs.Performs.{Performs};
 ghost use Rattle.opening.specs.Opened.{IsTable};
 ghost use Rattle.drop.specs.Plans.{plan_for, Droppable};
 
-use answers::{Refusal, Written};
+use answers::{Reason, Refusal};
 use head::Head;
 use model::Geometry;
-use outgoing::Leaving;
 
 // 12, 23, 13, 12; and the entries that leave the total.
-pub fn decide(part: &[u8], flash: &[u8], g: Geometry, t: u32) -> Leaving
+pub fn decide(part: &[u8], flash: &[u8], g: Geometry, t: u32) -> Result<u32, Refusal>
     requires whole { Whole g part.now }
     requires g_in_bounds { flash_need g ≤ length flash.now }
     requires t_bound { t < partitions g }
-    ensures { result ≡ plan_for g t part.now flash.now }
+    ensures { told result ≡ plan_for g t part.now flash.now }
 {
     let head = Head::read(part);
     if head.is_overfull(g) {
-        return Leaving::Refused(Refusal {
-            number: 12,
-            reads: 0,
-        });
+        return Err(Reason::Overfull.into());
     }
     if head.live == 0 {
-        return Leaving::Refused(Refusal {
-            number: 23,
-            reads: 0,
-        });
+        return Err(Reason::NothingLive.into());
     }
     let oldest = head.flushes - head.live + 1;
-    match outgoing::read_heads(flash, g, t, oldest, geometry::slot_of(g, oldest)) {
-        Leaving::Refused(refusal) => Leaving::Refused(refusal),
-        Leaving::Entries(less) => {
-            if head.is_total_out(g, 0, less) {
-                return Leaving::Refused(Refusal {
-                    number: 12,
-                    reads: 0,
-                });
-            }
-            Leaving::Entries(less)
-        }
+    let less = outgoing::read_heads(flash, g, t, oldest, geometry::slot_of(g, oldest))?;
+    if head.is_total_out(g, 0, less) {
+        return Err(Reason::Overfull.into());
     }
+    Ok(less)
 }
 
 // The oldest live batch is live no more: its list entries leave, and its `less` entries leave the total.
@@ -80,21 +66,14 @@ fn apply_at(memory: &mut [u8], g: Geometry, t: u32, less: u32)
 }
 
 // The call on a table: 4, 12, 23, 13, 12, or done.
-pub fn call(memory: &mut [u8], flash: &[u8], g: Geometry, t: u32) -> Written
+pub fn call(memory: &mut [u8], flash: &[u8], g: Geometry, t: u32) -> Result<u32, Refusal>
     requires { IsTable g memory.old flash.now }
     ensures { Performs (Call.drop t) memory.old flash.now (written result) memory.new flash.now }
 {
     if geometry::partition_count(g) <= t {
-        return Written::Refused(Refusal {
-            number: 4,
-            reads: 0,
-        });
+        return Err(Reason::NoSuchPart.into());
     }
-    match decide(partition::part_of(memory, g, t), flash, g, t) {
-        Leaving::Refused(refusal) => Written::Refused(refusal),
-        Leaving::Entries(less) => {
-            apply_at(memory, g, t, less);
-            Written::Done(0)
-        }
-    }
+    let less = decide(partition::part_of(memory, g, t), flash, g, t)?;
+    apply_at(memory, g, t, less);
+    Ok(0)
 }

@@ -1,8 +1,9 @@
 -- What the C interface gives: one struct for the answers of all calls, and one for a card's figures.
-use Rattle.std.specs.Prelude.{ℕ, ◌<◌, ◌^◌}
+use Rattle.std.specs.Prelude.{ℕ, ◌<◌, ◌^◌, Result, Ok, Err}
 use Rattle.model.specs.Answers.{Place, buffer, batch, Stretch, in_memory, in_flash, Answer, done, found, absent, shown, refused}
 use Rattle.model.specs.Calls.{Call, format, put, get, del, flush, view, count, text, drop}
-use Rattle.model.specs.declared.Figured.{Figured}
+use Rattle.model.specs.declared.Card.{Card}
+use Rattle.answers.specs.declared.Refusal.{Refusal}
 use Rattle.answers.specs.declared.Viewed.{Viewed}
 use Rattle.exported.specs.declared.MxAnswer.{MxAnswer}
 use Rattle.exported.specs.declared.MxCard.{MxCard}
@@ -49,12 +50,12 @@ exported_by (text t room) x = exported_text x
 exported_by (drop t) x = exported x
 
 -- the bytes of a page are a 32-bit number
-abbrev pub SizeFits : Viewed → Type 0
-SizeFits (Viewed.Memory at size) = size < 2 ^ 32
-SizeFits (Viewed.Flash at size) = size < 2 ^ 32
-SizeFits (Viewed.Refused r) = Unit {0}
+abbrev pub SizeFits : Result Viewed Refusal → Type 0
+SizeFits (Ok (Viewed.Memory at size)) = size < 2 ^ 32
+SizeFits (Ok (Viewed.Flash at size)) = size < 2 ^ 32
+SizeFits (Err r) = Unit {0}
 
 -- of a card: done with its figures, or refused
-abbrev pub exported_card : Figured → MxCard
-exported_card (Figured.Done c) = record { status = 0; number = 0; memory = c.memory; flash = c.flash; flushes = c.flushes; first_lost = c.first_lost }
-exported_card (Figured.Refused n) = record { status = 3; number = n; memory = 0; flash = 0; flushes = 0; first_lost = 0 }
+abbrev pub exported_card : Result Card ℕ → MxCard
+exported_card (Ok c) = record { status = 0; number = 0; memory = c.memory; flash = c.flash; flushes = c.flushes; first_lost = c.first_lost }
+exported_card (Err n) = record { status = 3; number = n; memory = 0; flash = 0; flushes = 0; first_lost = 0 }

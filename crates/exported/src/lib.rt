@@ -3,11 +3,11 @@
 
 ghost use Rattle.std.specs.Prelude.{◌≡◌, ◌<◌, ◌^◌};
 ghost use Rattle.model.specs.Answers.{found};
-ghost use Rattle.answers.specs.Told.{as_tally, refusing, written, place, answered, viewed};
+ghost use Rattle.answers.specs.Told.{numbered, as_tally, refusing, written, place, answered, viewed};
 ghost use Rattle.exported.specs.Exported.{answer, batch_of, exported, exported_text, exported_card, SizeFits};
 
-use answers::{Answer, Hit, Place, Refusal, Viewed, Written};
-use model::Figured;
+use answers::{Answer, Hit, Place, Reason, Refusal, Viewed};
+use model::Card;
 
 #[repr(C)]
 #[derive(Clone, Copy)]
@@ -31,6 +31,7 @@ pub struct MxCard {
     pub first_lost: u64,
 }
 
+// Numbers, since C has no enum with values: include/mortxizal.h names them.
 const DONE: u32 = 0;
 
 const FOUND: u32 = 1;
@@ -44,7 +45,7 @@ fn of_refusal(refusal: Refusal) -> MxAnswer
 {
     MxAnswer {
         status: REFUSED,
-        number: refusal.number,
+        number: refusal.reason.number(),
         reads: refusal.reads,
         batch: 0,
         value: 0,
@@ -52,11 +53,12 @@ fn of_refusal(refusal: Refusal) -> MxAnswer
     }
 }
 
-pub fn of_written(outcome: Written) -> MxAnswer
+// Functions by name, and no `From`: pages and bytes are both a `u32`, and `of_viewed` asks that a size fits.
+pub fn of_written(outcome: Result<u32, Refusal>) -> MxAnswer
     ensures { result ≡ exported (written outcome) }
 {
     match outcome {
-        Written::Done(pages) => MxAnswer {
+        Ok(pages) => MxAnswer {
             status: DONE,
             number: pages,
             reads: 0,
@@ -64,16 +66,16 @@ pub fn of_written(outcome: Written) -> MxAnswer
             value: 0,
             comparisons: 0,
         },
-        Written::Refused(refusal) => of_refusal(refusal),
+        Err(refusal) => of_refusal(refusal),
     }
 }
 
 // The length of a text.
-pub fn of_text(outcome: Written) -> MxAnswer
+pub fn of_text(outcome: Result<u32, Refusal>) -> MxAnswer
     ensures { result ≡ exported_text (written outcome) }
 {
     match outcome {
-        Written::Done(bytes) => MxAnswer {
+        Ok(bytes) => MxAnswer {
             status: DONE,
             number: 0,
             reads: 0,
@@ -81,7 +83,7 @@ pub fn of_text(outcome: Written) -> MxAnswer
             value: bytes as u64,
             comparisons: 0,
         },
-        Written::Refused(refusal) => of_refusal(refusal),
+        Err(refusal) => of_refusal(refusal),
     }
 }
 
@@ -109,12 +111,12 @@ fn of_hit(hit: Hit) -> MxAnswer
     }
 }
 
-pub fn of_answer(outcome: Answer) -> MxAnswer
+pub fn of_answer(outcome: Result<Answer, Refusal>) -> MxAnswer
     ensures { result ≡ exported (answered outcome) }
 {
     match outcome {
-        Answer::Found(hit) => of_hit(hit),
-        Answer::Absent(tally) => MxAnswer {
+        Ok(Answer::Found(hit)) => of_hit(hit),
+        Ok(Answer::Absent(tally)) => MxAnswer {
             status: NONE,
             number: 0,
             reads: tally.reads,
@@ -122,7 +124,7 @@ pub fn of_answer(outcome: Answer) -> MxAnswer
             value: 0,
             comparisons: tally.comparisons,
         },
-        Answer::Refused(refusal) => of_refusal(refusal),
+        Err(refusal) => of_refusal(refusal),
     }
 }
 
@@ -141,22 +143,22 @@ fn of_page(area: u32, at: usize, size: usize) -> MxAnswer
     }
 }
 
-pub fn of_viewed(outcome: Viewed) -> MxAnswer
+pub fn of_viewed(outcome: Result<Viewed, Refusal>) -> MxAnswer
     requires { SizeFits outcome }
     ensures { result ≡ exported (viewed outcome) }
 {
     match outcome {
-        Viewed::Memory(at, size) => of_page(0, at, size),
-        Viewed::Flash(at, size) => of_page(1, at, size),
-        Viewed::Refused(refusal) => of_refusal(refusal),
+        Ok(Viewed::Memory(at, size)) => of_page(0, at, size),
+        Ok(Viewed::Flash(at, size)) => of_page(1, at, size),
+        Err(refusal) => of_refusal(refusal),
     }
 }
 
-pub fn of_figures(outcome: Figured) -> MxCard
-    ensures { result ≡ exported_card outcome }
+pub fn of_figures(outcome: Result<Card, Reason>) -> MxCard
+    ensures { result ≡ exported_card (numbered outcome) }
 {
     match outcome {
-        Figured::Done(card) => MxCard {
+        Ok(card) => MxCard {
             status: DONE,
             number: 0,
             memory: card.memory,
@@ -164,9 +166,9 @@ pub fn of_figures(outcome: Figured) -> MxCard
             flushes: card.flushes,
             first_lost: card.first_lost,
         },
-        Figured::Refused(number) => MxCard {
+        Err(reason) => MxCard {
             status: REFUSED,
-            number,
+            number: reason.number(),
             memory: 0,
             flash: 0,
             flushes: 0,

@@ -1,2 +1,2 @@
+pub mod Prefixes
 pub mod Reading
-pub mod Steps

@@ -3,16 +3,17 @@ use mathlib.Core.Path.{◌≡◌, refl, sym, ◌∙◌, ap}
 use mathlib.Core.Logic.{⊎_elim}
 use mathlib.Core.Bool.{Bool, true, false, not}
 use mathlib.Core.List.{List, [], ◌∷◌}
-use mathlib.Core.Option.{none, some}
+use Rattle.std.specs.Prelude.{Option, None, Some}
 use Prim.Native.Nat.{ℕ, ◌+◌, ◌-◌, ◌*◌, ◌≤◌, ◌<◌}
 use native.Mathlib.Omega.{arith}
 use lib.ListN.{length, get_or, drop, get_or-eq_default}
 use lib.Seq.{drop-drop}
 use borrow.Author.Tests.{leb-true, ne_eqb}
-use Rattle.model.specs.Text.{leading, is_plain, number_from, figure}
+use Rattle.model.specs.Text.{past, leading, is_plain, number_from, Figure, figure}
+use Rattle.model.specs.Session.{then}
 use Rattle.model.proofs.Parts.{lt-or-ge}
 use Rattle.model.proofs.Tests.{both_true}
-use Rattle.model.proofs.Numbers.{leading-figure, leading-other, number-end, number-figure, number-grows, figure-over, figure-is}
+use Rattle.model.proofs.Numbers.{leading-figure, leading-other, number-end, number-figure, number-grows, figure-over, figure-is, figure-read}
 use Rattle.figures.specs.Places.{figure_at}
 
 module _ (line : List ℕ) (i : ℕ) where
@@ -57,11 +58,19 @@ module _ (line : List ℕ) (at n i most : ℕ) (inv : Reads line at n i) where
     omega (arith, ap length (leading-more line i e)),
   )
 
-  pub reads_over : figure_at line i ≡ true → most < 10 * n + (get_or line i 0 - 48) → figure (most + 1) (drop at line) ≡ none
+  pub reads_over : figure_at line i ≡ true → most < 10 * n + (get_or line i 0 - 48) → figure (most + 1) (drop at line) ≡ None
   reads_over e l = figure-over (most + 1) (drop at line) (omega (arith, number-grows (leading (drop (i + 1) line)) (10 * n + (get_or line i 0 - 48)), (reads_more e).0))
 
-  pub reads_all : is_plain (leading (drop at line)) ≡ true → figure_at line i ≡ false → n ≤ most → figure (most + 1) (drop at line) ≡ some (record { value = n; rest = drop i line })
+  pub reads_all : is_plain (leading (drop at line)) ≡ true → figure_at line i ≡ false → n ≤ most → figure (most + 1) (drop at line) ≡ Some (record { value = n; rest = drop i line })
   reads_all p e l =
       let v : number_from 0 (leading (drop at line)) ≡ n = sym inv.0 ∙ ap (number_from n) (leading-none line i e) ∙ number-end n in
       let k : i ≡ at + length (leading (drop at line)) = omega (arith, ap length (leading-none line i e)) in
       figure-is (most + 1) (drop at line) n (length (leading (drop at line))) p v refl (omega arith) ∙ rw (k, drop-drop)
+
+-- a number that was read is below its limit
+pub read_below : (limit : ℕ) (t xs : List ℕ) (f : Figure) → then (past t xs) (figure limit) ≡ Some f → f.value < limit
+read_below limit t xs f e = go (past t xs) e
+  where
+    go : (o : Option (List ℕ)) → then o (figure limit) ≡ Some f → f.value < limit
+    go None e = let z : ◌≡◌ {A = ℕ} 0 1 = cc in omega arith
+    go (Some ys) e = (figure-read limit ys f e).below

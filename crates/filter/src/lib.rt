@@ -30,13 +30,11 @@ pub fn passes(part: &[u8], g: Geometry, j: u32, x: u64) -> bool
     ensures { result ≡ passes g x (slot_bits g part.now j) }
 {
     let at = geometry::filter_at(g, j);
-    let mut i = 0;
-    while i < g.hashes {
+    for i in 0..g.hashes {
         let b = bit_of(g, x, i);
         if (part[at + b / 8] >> (b % 8)) % 2 == 0 {
             return false;
         }
-        i += 1;
     }
     true
 }
@@ -47,12 +45,10 @@ fn add_key(s: &mut [u8], at: usize, g: Geometry, x: u64)
     requires g_in_bounds { at + filter_size g ≤ length s.old }
     ensures { s.new ≡ within at (filter_size g) (with_bits g x g.hashes) s.old }
 {
-    let mut done = 0;
-    while done < g.hashes {
-        let b = bit_of(g, x, done);
+    for i in 0..g.hashes {
+        let b = bit_of(g, x, i);
         let byte = at + b / 8;
         s[byte] = s[byte] | (1u8 << (b % 8));
-        done += 1;
     }
 }
 
@@ -65,11 +61,9 @@ fn add_page(s: &mut [u8], at: usize, g: Geometry, page: usize)
     ensures { s.new ≡ within at (filter_size g) (with_entries g (mid page g.page s.old) (count_of (mid page g.page s.old))) s.old }
 {
     let n = words::u16_at(s, page) as usize;
-    let mut entry = 0;
-    while entry < n {
+    for entry in 0..n {
         let key = words::u64_at(s, page + 16 * (entry + 1));
         add_key(s, at, g, keys::mix(key));
-        entry += 1;
     }
 }
 
@@ -84,10 +78,7 @@ pub fn make(part: &mut [u8], g: Geometry, j: u32)
     let at = geometry::filter_at(g, j);
     let size = geometry::filter_size(g) as usize;
     words::zero(part, at, size);
-    let pages = g.pages;
-    let mut q = 0;
-    while q < pages {
+    for q in 0..g.pages {
         add_page(part, at, g, geometry::buffer_at(g, q));
-        q += 1;
     }
 }

@@ -1,7 +1,7 @@
 -- What the call performs, from what was decided and from what was done to the partition and to flash.
 use Prim.Native.Nat.{ℕ, ◌≤◌, ◌<◌}
 use mathlib.Core.List.{List}
-use mathlib.Core.Option.{none}
+use Rattle.std.specs.Prelude.{None, Ok, Err}
 use mathlib.Core.Path.{◌≡◌, sym, ◌∙◌}
 use native.Mathlib.Omega.{arith}
 use lib.ListN.{get_or}
@@ -25,7 +25,6 @@ use Rattle.opening.specs.Opened.{IsTable}
 use Rattle.partition.specs.Ready.{Flushable}
 use Rattle.partition.proofs.Flushing.{flushable}
 use Rattle.partition.proofs.Lending.{partition-words}
-use Rattle.outgoing.specs.declared.Leaving.TheVariants.{Refused, Entries}
 use Rattle.outgoing.proofs.Deciding.{refused-by, passed-with}
 use Rattle.flush.specs.Plans.{plan_for}
 
@@ -39,15 +38,15 @@ module _ (g : Geometry) (m f : List ℕ) (table : IsTable g m f) (t : ℕ) where
   checked : checks (areas m f) (Call.flush t) ≡ flush_checks g t own f
   checked = checks-flush (areas m f) g table.own table.opens t
 
-  pub refuses : (r : Refusal) → plan_for g t own f ≡ Refused r → Performs (Call.flush t) m f (refusing r) m f
+  pub refuses : (r : Refusal) → Err (as_refusal r) ≡ plan_for g t own f → Performs (Call.flush t) m f (refusing r) m f
   unfolding plan_for
-  refuses r h = performing.refusing (Call.flush t) m f (as_refusal r) (checked ∙ refused-by _ _ r h)
+  refuses r h = performing.refusing (Call.flush t) m f (as_refusal r) (checked ∙ refused-by _ _ _ (sym h))
 
   -- ---- nothing refuses it, and so many entries leave
-  module _ (below : t < partitions g) (bytes : (i : ℕ) → get_or m i 0 < 256) (less : ℕ) (h : plan_for g t own f ≡ Entries less) where
-    passed : (flush_checks g t own f ≡ none) × (less ≡ leaving g t own f)
+  module _ (below : t < partitions g) (bytes : (i : ℕ) → get_or m i 0 < 256) (less : ℕ) (h : Ok less ≡ plan_for g t own f) where
+    passed : (flush_checks g t own f ≡ None) × (less ≡ leaving g t own f)
     unfolding plan_for
-    passed = passed-with _ _ less h
+    passed = passed-with _ _ less (sym h)
 
     words : HeadWords (head_of own)
     words = partition-words g t m bytes

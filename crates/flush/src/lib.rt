@@ -8,40 +8,30 @@ ghost use Rattle.model.specs.Partition.{partition, totalled, total_of};
 ghost use Rattle.model.specs.Flush.{flushed, with_batch};
 ghost use Rattle.model.specs.Calls.{Call};
 ghost use Rattle.partition.specs.Ready.{Whole, Flushable};
-ghost use Rattle.answers.specs.Told.{written};
+ghost use Rattle.answers.specs.Told.{told, written};
 ghost use Rattle.answers.specs.Performs.{Performs};
 ghost use Rattle.opening.specs.Opened.{IsTable};
 ghost use Rattle.flush.specs.Plans.{plan_for};
 
-use answers::{Refusal, Written};
+use answers::{Reason, Refusal};
 use head::Head;
 use model::Geometry;
-use outgoing::Leaving;
 
 // 12, 15, 16, 13, 12; and the entries that leave the total.
-pub fn decide(part: &[u8], flash: &[u8], g: Geometry, t: u32) -> Leaving
+pub fn decide(part: &[u8], flash: &[u8], g: Geometry, t: u32) -> Result<u32, Refusal>
     requires whole { Whole g part.now }
     requires g_in_bounds { flash_need g ≤ length flash.now }
     requires t_bound { t < partitions g }
-    ensures { result ≡ plan_for g t part.now flash.now }
+    ensures { told result ≡ plan_for g t part.now flash.now }
 {
     if Head::read(part).is_overfull(g) {
-        return Leaving::Refused(Refusal {
-            number: 12,
-            reads: 0,
-        });
+        return Err(Reason::Overfull.into());
     }
     if buffer::is_some_page_overfull(part, g) {
-        return Leaving::Refused(Refusal {
-            number: 12,
-            reads: 0,
-        });
+        return Err(Reason::Overfull.into());
     }
     if !buffer::is_in_use(part, g) {
-        return Leaving::Refused(Refusal {
-            number: 15,
-            reads: 0,
-        });
+        return Err(Reason::BufferEmpty.into());
     }
     outgoing::decide(part, flash, g, t, 0)
 }
@@ -62,21 +52,14 @@ fn apply_at(memory: &mut [u8], flash: &mut [u8], g: Geometry, t: u32, less: u32)
 }
 
 // The call on a table: 4, 12, 15, 16, 13, 12, or the pages of the batch.
-pub fn call(memory: &mut [u8], flash: &mut [u8], g: Geometry, t: u32) -> Written
+pub fn call(memory: &mut [u8], flash: &mut [u8], g: Geometry, t: u32) -> Result<u32, Refusal>
     requires { IsTable g memory.old flash.old }
     ensures { Performs (Call.flush t) memory.old flash.old (written result) memory.new flash.new }
 {
     if geometry::partition_count(g) <= t {
-        return Written::Refused(Refusal {
-            number: 4,
-            reads: 0,
-        });
+        return Err(Reason::NoSuchPart.into());
     }
-    match decide(partition::part_of(memory, g, t), flash, g, t) {
-        Leaving::Refused(refusal) => Written::Refused(refusal),
-        Leaving::Entries(less) => {
-            apply_at(memory, flash, g, t, less);
-            Written::Done(g.pages)
-        }
-    }
+    let less = decide(partition::part_of(memory, g, t), flash, g, t)?;
+    apply_at(memory, flash, g, t, less);
+    Ok(g.pages)
 }

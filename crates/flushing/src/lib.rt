@@ -52,12 +52,9 @@ fn move_batch(memory: &mut [u8], flash: &mut [u8], g: Geometry, t: u32, n: u32)
     requires n_value { n ≡ flushes_of (partition g t memory.old) + 1 }
     ensures { (memory.new ≡ within (partition_at g t) (stride g) (emptied_pages g t g.pages) memory.old) × (flash.new ≡ with_batch g t (partition g t memory.old) g.pages flash.old) }
 {
-    let pages = g.pages;
-    let mut q = 0;
-    while q < pages {
+    for q in 0..g.pages {
         page_writer::write(memory, flash, g, t, q, n);
         empty_page_at(memory, g, t, q);
-        q += 1;
     }
 }
 

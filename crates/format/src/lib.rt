@@ -9,32 +9,23 @@ ghost use Rattle.model.specs.Calls.{Call};
 ghost use Rattle.answers.specs.Told as told;
 ghost use Rattle.answers.specs.Performs.{Performs};
 
-use answers::{Refusal, Verdict, Written};
+use answers::{Reason, Refusal};
 use model::Geometry;
 
 // 1, 2, 3.
-pub fn decide(memory: &[u8], flash: &[u8], g: Geometry) -> Verdict
-    ensures { told.verdict result ≡ format_checks g (record { memory = memory.entry.now; flash = flash.now }) }
+pub fn decide(memory: &[u8], flash: &[u8], g: Geometry) -> Result<(), Reason>
+    ensures { told.refusal result ≡ format_checks g (record { memory = memory.entry.now; flash = flash.now }) }
 {
     if !geometry::is_allowed(g) {
-        return Verdict::Refused(Refusal {
-            number: 1,
-            reads: 0,
-        });
+        return Err(Reason::NotAllowed);
     }
     if memory.len() < geometry::memory_need(g) {
-        return Verdict::Refused(Refusal {
-            number: 2,
-            reads: 0,
-        });
+        return Err(Reason::MemoryShort);
     }
     if flash.len() < geometry::flash_need(g) {
-        return Verdict::Refused(Refusal {
-            number: 3,
-            reads: 0,
-        });
+        return Err(Reason::FlashShort);
     }
-    Verdict::Accepted
+    Ok(())
 }
 
 // The eight opening numbers.
@@ -60,12 +51,10 @@ fn empty_partitions(memory: &mut [u8], g: Geometry)
 {
     let count = geometry::partition_count(g);
     let size = geometry::partition_size(g);
-    let mut t = 0;
-    while t < count {
+    for t in 0..count {
         let a = geometry::partition_at(g, t);
         let e = a + size;
         buffer::empty_pages(&mut memory[a..e], g, t);
-        t += 1;
     }
 }
 
@@ -80,14 +69,10 @@ pub fn apply(memory: &mut [u8], g: Geometry)
 }
 
 // The call on any areas; flash only lends its length.
-pub fn call(memory: &mut [u8], flash: &[u8], g: Geometry) -> Written
+pub fn call(memory: &mut [u8], flash: &[u8], g: Geometry) -> Result<u32, Refusal>
     ensures { Performs (Call.format g) memory.old flash.now (told.written result) memory.new flash.now }
 {
-    match decide(memory, flash, g) {
-        Verdict::Refused(refusal) => Written::Refused(refusal),
-        Verdict::Accepted => {
-            apply(memory, g);
-            Written::Done(0)
-        }
-    }
+    decide(memory, flash, g)?;
+    apply(memory, g);
+    Ok(0)
 }

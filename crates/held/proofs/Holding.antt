@@ -1,10 +1,10 @@
 -- The unfinished line that is held between two reads.
-use Prim.Native.Nat.{ℕ, ◌≤◌, ◌<◌}
+use Prim.Native.Nat.{ℕ, ◌≤◌}
 use mathlib.Core.List.{List, ◌++◌}
 use mathlib.Core.Path.{◌≡◌, ◌∙◌, ap}
 use native.Mathlib.Omega.{arith}
 use lib.ListN.{length, take, drop, length-take, length-drop, length-append}
-use lib.Seq.{take_at, take-append-le, length-sets, length-take-le}
+use lib.Seq.{take-append-le, length-sets, length-take-le}
 use Rattle.printer.specs.Puts.{Puts}
 use Rattle.lines.specs.Lines.{Unended, longest, Same}
 use Rattle.lines.proofs.Cutting.{unended-take, unended-drop, same-cut}
@@ -33,7 +33,3 @@ module _ {n : ℕ} {rest : Rest} {xs ys : List ℕ} (k : AtStart n rest xs ys) (
   -- it does what the whole line does
   pub kept_same : Same (held_bytes rest xs) (take n ys)
   kept_same = rw k.stands (same-cut (held_bytes rest xs) (unended-drop rest.at (take rest.end xs) h.unended))
-
--- what stands before a part that changes
-pub front : (n : ℕ) (xs ys : List ℕ) → n < length xs → take n (take n xs ++ ys) ≡ take n xs
-front n xs ys l = take_at (take n xs) ys n (length-take-le n xs (omega arith))

@@ -1,8 +1,7 @@
--- What stands in the buffer between two reads, and what a read's answer means. What was read no contract can say.
-use Rattle.std.specs.Prelude.{ℕ, zero, suc, ◌≤◌, min, List, ◌≡◌, ℤ, pos, negsuc, length, take, drop}
+-- What stands in the buffer between two reads.
+use Rattle.std.specs.Prelude.{ℕ, ◌≤◌, List, ◌≡◌, length, take, drop, Result, Ok, Err}
 use Rattle.lines.specs.Lines.{Unended, longest}
 use Rattle.held.specs.declared.Rest.{Rest}
-use Rattle.held.specs.declared.Got.{Got}
 
 -- an unfinished line stands in the buffer
 pub record Held (rest : Rest) (input : List ℕ) : Type 0 where
@@ -18,17 +17,7 @@ pub record AtStart (n : ℕ) (rest : Rest) (before later : List ℕ) : Type 0 wh
   pub within : n ≤ length later
   pub stands : take n later ≡ take longest (held_bytes rest before)
 
--- what a read's answer means, where there was free room for n bytes: it failed, the input has ended, or so many bytes came
-abbrev pub came_of : ℕ → Got
-came_of zero = Got.End
-came_of (suc n) = Got.Bytes (suc n)
-
-abbrev pub got_of : ℤ → ℕ → Got
-got_of (negsuc k) n = Got.Failure
-got_of (pos k) n = came_of (min k n)
-
 -- no more bytes came than there was room for
-abbrev pub Within : Got → ℕ → Type 0
-Within (Got.Bytes n) most = n ≤ most
-Within Got.End most = Unit {0}
-Within Got.Failure most = Unit {0}
+abbrev pub Within : {E : Type 0} → Result ℕ E → ℕ → Type 0
+Within (Ok n) most = n ≤ most
+Within (Err e) most = Unit {0}

@@ -1,9 +1,11 @@
-// The unfinished line that a session holds between two reads, and what a read tells.
+// The unfinished line that a session holds between two reads; and a read behind it.
 #![tactic(auto)]
 
-ghost use Rattle.std.specs.Prelude.{◌≡◌, ◌<◌, length, take};
-ghost use Rattle.held.specs.Held.{Held, AtStart, got_of};
+ghost use Rattle.std.specs.Prelude.{◌≡◌, ◌-◌, ◌<◌, length, take, drop};
+ghost use Rattle.std.specs.Io.KnownBytes.{ReadConsumes};
+ghost use Rattle.held.specs.Held.{Held, AtStart, Within};
 
+use std::io;
 use std::io::Read;
 
 // The unfinished line that is held between two reads: input[at..end].
@@ -11,14 +13,6 @@ use std::io::Read;
 pub struct Rest {
     pub at: usize,
     pub end: usize,
-}
-
-// What a read told: so many bytes came, the input has ended, or it failed.
-#[derive(Clone, Copy)]
-pub enum Got {
-    Bytes(usize),
-    End,
-    Failure,
 }
 
 // Moves the unfinished line to the start of the buffer; tells how many bytes are held there.
@@ -30,27 +24,12 @@ pub fn hold(input: &mut [u8], rest: Rest) -> usize
     lines::keep_rest(&mut input[..end], rest.at)
 }
 
-// Reads once, behind the bytes that are held; tells how many bytes came, or a number below 0 where the read failed.
-pub fn read_behind(stdin: &mut impl Read, input: &mut [u8], held: usize) -> isize
+// Reads once, behind the bytes that are held; tells how many bytes came, 0 at the end of input.
+pub fn read_behind<R: Read>(stdin: &mut R, input: &mut [u8], held: usize) -> io::Result<usize>
     requires { held < length input.old }
-    ensures { take held input.new ≡ take held input.old }
+    ensures stays { take held input.new ≡ take held input.old }
+    ensures within { Within result (length input.old - held) }
+    ensures bytes { ReadConsumes (R.remaining stdin.old) (R.remaining stdin.new) result (drop held input.new) }
 {
-    match stdin.read(&mut input[held..]) {
-        Ok(count) => count as isize,
-        Err(_) => -1,
-    }
-}
-
-// What a read's answer means, of the free room that it was handed.
-pub fn got_of(answer: isize, free: &[u8]) -> Got
-    ensures { result ≡ got_of answer (length free.now) }
-{
-    if answer < 0 {
-        return Got::Failure;
-    }
-    let n = io::count(answer, free);
-    if n == 0 {
-        return Got::End;
-    }
-    Got::Bytes(n)
+    stdin.read(&mut input[held..])
 }

@@ -2,7 +2,7 @@
 use Prim.Native.Nat.{ℕ, zero, suc, ◌-◌}
 use mathlib.Core.Bool.{false}
 use mathlib.Core.Path.{◌≡◌, refl}
-use mathlib.Core.Option.{Option, none, some}
+use Rattle.std.specs.Prelude.{Option, None, Some}
 use Rattle.model.specs.Answers.{Answer, done, found, absent, shown, refused, Place, buffer, batch}
 use Rattle.history.specs.History.{Known}
 use Rattle.history.specs.Claim.{is_refused, said, value_of}
@@ -21,9 +21,9 @@ bare (refused n r) = other
 
 -- what is said follows from it
 abbrev pub said_of : Bare → Option (Option ℕ)
-said_of (value v p) = some (some v)
-said_of nothing = some none
-said_of other = none
+said_of (value v p) = Some (Some v)
+said_of nothing = Some None
+said_of other = None
 
 pub said-bare : (x : Answer) → said x ≡ said_of (bare x)
 said-bare (found v c p) = refl
@@ -39,12 +39,12 @@ place_at F (suc a) = batch (F - a)
 
 -- what the history makes a get answer
 abbrev pub bare_of : ℕ → Option Known → Bare
-bare_of F none = nothing
-bare_of F (some w) = value w.value (place_at F w.age)
+bare_of F None = nothing
+bare_of F (Some w) = value w.value (place_at F w.age)
 
-pub said-known : (F : ℕ) (w : Option Known) → said_of (bare_of F w) ≡ some (value_of w)
-said-known F none = refl
-said-known F (some w) = refl
+pub said-known : (F : ℕ) (w : Option Known) → said_of (bare_of F w) ≡ Some (value_of w)
+said-known F None = refl
+said-known F (Some w) = refl
 
 -- which is no refusal
 pub known-accepted : (x : Answer) (F : ℕ) (w : Option Known) → bare x ≡ bare_of F w → is_refused x ≡ false
@@ -52,5 +52,5 @@ known-accepted (found v c p) F w e = refl
 known-accepted (absent c) F w e = refl
 known-accepted (done n) F w e = refl
 known-accepted (shown s) F w e = refl
-known-accepted (refused n r) F none e = cc
-known-accepted (refused n r) F (some w) e = cc
+known-accepted (refused n r) F None e = cc
+known-accepted (refused n r) F (Some w) e = cc

@@ -3,7 +3,7 @@ use Prim.Native.Nat.{ℕ, zero, suc, ◌+◌, ◌-◌, ◌≤◌, ◌<◌}
 use mathlib.Core.Bool.{true, false}
 use mathlib.Core.Path.{◌≡◌, refl, sym, ◌∙◌, ap}
 use mathlib.Core.List.{List, [], ◌∷◌}
-use mathlib.Core.Option.{Option, none, some}
+use Rattle.std.specs.Prelude.{Option, None, Some}
 use native.Mathlib.Omega.{arith}
 use native.Mathlib.Decide.{ℕ_discrete}
 use lib.ListN.{length}
@@ -26,7 +26,7 @@ changed g k p l c = remade p l (modify (page_of g k) c p.buffer)
 
 module _ (g : Geometry) (k : ℕ) (w : Option Known) (p : Part) (ok : PartOk g p) (l : List Entry) (c : List Entry → List Entry) where
   changed-touch : Distinct l → length l ≤ g.list → ((j : ℕ) → (j ≡ k → ⊥) → find j l ≡ find j p.list)
-      → ((n : ℕ) → find k l ≡ some n → Live p n)
+      → ((n : ℕ) → find k l ≡ Some n → Live p n)
       → Distinct (c (p.buffer (page_of g k))) → length (c (p.buffer (page_of g k))) ≤ capacity g
       → ((j : ℕ) → (j ≡ k → ⊥) → (b : List Entry) → find j (c b) ≡ find j b)
       → KeyOk g (changed g k p l c) k w → Touch g k w p (changed g k p l c)
@@ -54,7 +54,7 @@ module _ (g : Geometry) (k : ℕ) (w : Option Known) (p : Part) (ok : PartOk g p
 
 module _ (g : Geometry) (k : ℕ) (p : Part) (ok : PartOk g p) where
   pub stored-touch : (v : ℕ) → length (store k v (p.buffer (page_of g k))) ≤ capacity g
-      → Touch g k (some (record { value = v; age = 0 })) p (stored g k v p)
+      → Touch g k (Some (record { value = v; age = 0 })) p (stored g k v p)
   unfolding stored
   stored-touch v room = changed-touch g k _ p ok (erase k p.list) (store k v)
       (distinct-erase k _ ok.once)
@@ -71,21 +71,21 @@ module _ (g : Geometry) (k : ℕ) (p : Part) (ok : PartOk g p) where
   module _ (inside : page_of g k < g.pages) where
     -- the buffer page without the key holds nothing of it, and neither do the batches that a del looked past
     gone : (l : List Entry) (b : ℕ) → b ≤ p.live → ((c : ℕ) → b ≡ suc c → Above (p.flushes - c) (passing g k p))
-        → seen g (changed g k p l (erase k)) k b ≡ none
+        → seen g (changed g k p l (erase k)) k b ≡ None
     gone l zero x y = rw (modify-at (page_of g k) (erase k) p.buffer (page_of g k) refl) (find-erase-same k _ (ok.apart (page_of g k)))
     gone l (suc c) x y = skipped g k p inside p.live p.flushes (p.flushes - c) (omega arith) (omega arith) (y c refl)
 
     -- the key out of its buffer page, and a list that holds of the other keys what it held
     erased-touch : (l : List Entry) → Distinct l → length l ≤ g.list → ((j : ℕ) → (j ≡ k → ⊥) → find j l ≡ find j p.list)
-        → ((n : ℕ) → find k l ≡ some n → Live p n)
-        → KeyOk g (changed g k p l (erase k)) k none → Touch g k none p (changed g k p l (erase k))
-    erased-touch l once fits others stamp own = changed-touch g k none p ok l (erase k) once fits others stamp
+        → ((n : ℕ) → find k l ≡ Some n → Live p n)
+        → KeyOk g (changed g k p l (erase k)) k None → Touch g k None p (changed g k p l (erase k))
+    erased-touch l once fits others stamp own = changed-touch g k None p ok l (erase k) once fits others stamp
         (distinct-erase k _ (ok.apart (page_of g k)))
         (omega (arith, length-erase k (p.buffer (page_of g k)), ok.fits (page_of g k)))
         (λ j n. find-erase-other j k n) own
 
-    unlisted-touch : find k p.list ≡ none → (ns : List ℕ) → passing g k p ≡ ns → (is_empty ns ≡ false → length p.list < g.list)
-        → Touch g k none p (changed g k p (enlist k ns p.list) (erase k))
+    unlisted-touch : find k p.list ≡ None → (ns : List ℕ) → passing g k p ≡ ns → (is_empty ns ≡ false → length p.list < g.list)
+        → Touch g k None p (changed g k p (enlist k ns p.list) (erase k))
     unfolding enlist
     unlisted-touch new [] e room = erased-touch p.list ok.once ok.list_fits (λ j n. refl) (ok.stamps k)
         (told_same new (λ a. refl) (absent (λ b l. gone p.list b l (λ c q. rw e tt))))
@@ -101,10 +101,10 @@ module _ (g : Geometry) (k : ℕ) (p : Part) (ok : PartOk g p) where
         (listed {s = n} (λ (b : ℕ) (l : b + n ≤ p.flushes). gone (store k n p.list) b (omega arith) (λ c q. rw e (omega arith))))))
 
     pub deleted-touch : (w : Option Known) → KeyOk g p k w → (must_list g k p ≡ true → length p.list < g.list)
-        → Touch g k none p (deleted g k p)
+        → Touch g k None p (deleted g k p)
     unfolding deleted must_list
     deleted-touch w told room = go (find k p.list) refl
       where
-        go : (o : Option ℕ) → find k p.list ≡ o → Touch g k none p (deleted g k p)
-        go none e = simp e (unlisted-touch e (passing g k p) refl (λ h. room (simp (e, h))))
-        go (some s) e = simp e (record { ok = ok; own = told-forget told (ap is_some e); other = λ j n v t. t; same = refl })
+        go : (o : Option ℕ) → find k p.list ≡ o → Touch g k None p (deleted g k p)
+        go None e = simp e (unlisted-touch e (passing g k p) refl (λ h. room (simp (e, h))))
+        go (Some s) e = simp e (record { ok = ok; own = told-forget told (ap is_some e); other = λ j n v t. t; same = refl })

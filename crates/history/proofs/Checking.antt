@@ -4,7 +4,7 @@ use Prim.Native.Nat.{ℕ, ◌^◌, ◌≤◌, ◌<◌}
 use mathlib.Core.Bool.{true, false, not, ◌&&◌, ◌||◌, and-false}
 use mathlib.Core.Path.{◌≡◌, ◌∙◌}
 use mathlib.Core.List.{List}
-use mathlib.Core.Option.{Option, none, some}
+use Rattle.std.specs.Prelude.{Option, None, Some}
 use native.Mathlib.Omega.{arith}
 use lib.Dec.{eqb, ltb}
 use lib.ListN.{length}
@@ -77,44 +77,44 @@ module _ {a : Areas} {h : History} (inv : InStep a h) where
     pages-ok = fits-pages g p (λ q l. (at.buffer q l).fits)
 
     -- its buffer is empty; or no flush number is left
-    pub flush-checks : checks a (flush t) ≡ refuse_if (not (in_use g s)) 15 (refuse_if (eqb s.flushes last_flush) 16 none)
+    pub flush-checks : checks a (flush t) ≡ refuse_if (not (in_use g s)) 15 (refuse_if (eqb s.flushes last_flush) 16 None)
     flush-checks =
         checks-flush a g own opening t ∙ flush-last g t p a.flash below head_ok pages-ok
         ∙ rw (due-last g t 0 p a.flash (heads-shown g ok t p _ _ at part) (flush-in g ok t p _ _ was part), use-shown g ok t p _ s at, at.flushes)
 
     -- no batch is live
-    pub drop-checks : checks a (drop t) ≡ refuse_if (eqb s.live 0) 23 none
+    pub drop-checks : checks a (drop t) ≡ refuse_if (eqb s.live 0) 23 None
     drop-checks = checks-drop a g own opening t ∙ either (eqb s.live 0)
         (λ e. drop-23 g t p a.flash below head_ok (at.live ∙ eqb-true _ _ e) ∙ rw e)
         (λ e.
         let any : 1 ≤ s.live = omega numbers in
         drop-read g t p a.flash below head_ok (omega (numbers, at.live)) ∙ rw (e, oldest-sound g ok t p _ _ at part any, drop-in g ok t p _ _ was part any))
 
-    pub count-checks : checks a (count t) ≡ none
+    pub count-checks : checks a (count t) ≡ None
     count-checks = checks-count a g own opening t ∙ count-passes g t p below head_ok
 
-    pub text-checks : (room : ℕ) → checks a (text t room) ≡ refuse_if (ltb room (length (partition_text g t p a.flash))) 22 none
+    pub text-checks : (room : ℕ) → checks a (text t room) ≡ refuse_if (ltb room (length (partition_text g t p a.flash))) 22 None
     text-checks room =
         checks-text a g own opening t room ∙ text-room g t room p a.flash below head_ok pages-ok (batches-shown g ok t p _ _ at part)
 
-    pub view-checks : (q n : ℕ) → q < g.pages → checks a (view t q n) ≡ refuse_if (not (eqb n 0) && not (is_live (head_of p) n)) 17 none
+    pub view-checks : (q n : ℕ) → q < g.pages → checks a (view t q n) ≡ refuse_if (not (eqb n 0) && not (is_live (head_of p) n)) 17 None
     view-checks q n l =
         checks-view a g own opening t q n ∙ view-last g t q n p below l head_ok (rw (fits-page g p q (at.buffer q l).fits) (and-false (eqb n 0)))
 
   -- and of another
-  pub flush-out : (t : ℕ) → partitions g ≤ t → checks a (flush t) ≡ some (unread 4)
+  pub flush-out : (t : ℕ) → partitions g ≤ t → checks a (flush t) ≡ Some (unread 4)
   flush-out t l = checks-flush a g own opening t ∙ flush-4 g t _ a.flash l
 
-  pub drop-out : (t : ℕ) → partitions g ≤ t → checks a (drop t) ≡ some (unread 4)
+  pub drop-out : (t : ℕ) → partitions g ≤ t → checks a (drop t) ≡ Some (unread 4)
   drop-out t l = checks-drop a g own opening t ∙ drop-4 g t _ a.flash l
 
-  pub count-out : (t : ℕ) → partitions g ≤ t → checks a (count t) ≡ some (unread 4)
+  pub count-out : (t : ℕ) → partitions g ≤ t → checks a (count t) ≡ Some (unread 4)
   count-out t l = checks-count a g own opening t ∙ count-4 g t _ l
 
-  pub text_out : (t room : ℕ) → partitions g ≤ t → checks a (text t room) ≡ some (unread 4)
+  pub text_out : (t room : ℕ) → partitions g ≤ t → checks a (text t room) ≡ Some (unread 4)
   text_out t room l = checks-text a g own opening t room ∙ text-4 g t room _ a.flash l
 
-  pub view_out : (t q n : ℕ) → not (ltb t (partitions g)) || not (ltb q g.pages) ≡ true → checks a (view t q n) ≡ some (unread 4)
+  pub view_out : (t q n : ℕ) → not (ltb t (partitions g)) || not (ltb q g.pages) ≡ true → checks a (view t q n) ≡ Some (unread 4)
   view_out t q n e = checks-view a g own opening t q n ∙ view-4 g t q n _ e
 
   -- of a key
@@ -134,11 +134,11 @@ module _ {a : Areas} {h : History} (inv : InStep a h) where
     key-ok : key_overfull g k bytes ≡ false
     key-ok = fits-key g bytes k (head_ok t below) ((at t below).buffer (page_of g k) (page-of-lt g ok k)).fits
 
-    pub get-checks : checks a (get k) ≡ none
+    pub get-checks : checks a (get k) ≡ None
     get-checks = checks-get a g own opening k ∙ get-passes g k _ key-ok
 
     -- a flush is due, and no flush number is left: whatever the value, so one stands for all
-    pub room-checks : room_checks g k bytes a.flash ≡ refuse_if (due_in g k here && eqb here.flushes last_flush) 16 none
+    pub room-checks : room_checks g k bytes a.flash ≡ refuse_if (due_in g k here && eqb here.flushes last_flush) 16 None
     room-checks =
         let f : List ℕ = a.flash in
         let is-due : due g k bytes ≡ due_in g k here = due-shown g ok t bytes f here (at t below) k in
@@ -149,13 +149,13 @@ module _ {a : Areas} {h : History} (inv : InStep a h) where
         (λ d. room-undue g k bytes f key-ok (is-due ∙ d) ∙ rw (put-in g ok t bytes f here (was t below) (part t below) k 0 d, d))
 
     -- or the value is no position
-    pub put-checks : (v : ℕ) → checks a (put k v) ≡ refuse_if (no_position v) 21 (refuse_if (due_in g k here && eqb here.flushes last_flush) 16 none)
+    pub put-checks : (v : ℕ) → checks a (put k v) ≡ refuse_if (no_position v) 21 (refuse_if (due_in g k here && eqb here.flushes last_flush) 16 None)
     put-checks v = checks-put a g own opening k v ∙ either (no_position v)
         (λ no. put-21 g k bytes v a.flash no ∙ rw no)
         (λ yes. put-room g k bytes v a.flash yes ∙ room-checks ∙ rw yes)
 
     -- the key must be listed, and no place is free
-    pub del-checks : checks a (del k) ≡ refuse_if (must_list g k here && eqb (length here.list) g.list) 14 none
+    pub del-checks : checks a (del k) ≡ refuse_if (must_list g k here && eqb (length here.list) g.list) 14 None
     del-checks =
         checks-del a g own opening k ∙ del-full g k bytes key-ok
         ∙ rw (del-in g ok t bytes a.flash here (was t below) (part t below) k, must-list-shown g ok t bytes _ here (at t below) k (part t below).live_flushed, list_count (at t below))

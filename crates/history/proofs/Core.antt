@@ -3,7 +3,7 @@ use Prim.Native.Nat.{ℕ, zero, suc, ◌-◌, ◌≤◌}
 use mathlib.Core.Bool.{false}
 use mathlib.Core.Path.{◌≡◌, refl, sym, ◌∙◌, ap}
 use mathlib.Core.List.{List}
-use mathlib.Core.Option.{Option, none, some}
+use Rattle.std.specs.Prelude.{Option, None, Some}
 use native.Mathlib.Omega.{arith}
 use lib.Dec.{eqb}
 use lib.ListN.{length}
@@ -36,7 +36,7 @@ pub record PartOk (g : Geometry) (p : Part) : Type 0 where
   pub live_flushed : p.live ≤ p.flushes
   pub once : Distinct p.list
   pub list_fits : length p.list ≤ g.list
-  pub stamps : (j n : ℕ) → find j p.list ≡ some n → Live p n
+  pub stamps : (j n : ℕ) → find j p.list ≡ Some n → Live p n
   pub apart : (q : ℕ) → Distinct (p.buffer q)
   pub fits : (q : ℕ) → length (p.buffer q) ≤ capacity g
   pub batch_fits : (n q : ℕ) → length (p.batch n q) ≤ capacity g
@@ -66,17 +66,17 @@ module _ (g : Geometry) where
       (told-flush (seen g p k) (seen g (flushed g p) k) refl (λ a. ap (find k) (flushed-pages p (page_of g k) a)) g.kept told)
 
   -- a stamp that is left was there, and did not expire
-  stamp-left : (p : Part) → PartOk g p → (back j n : ℕ) → find j (strike (expires back p.flushes) p.list) ≡ some n → Live p n × (expires back p.flushes n ≡ false)
+  stamp-left : (p : Part) → PartOk g p → (back j n : ℕ) → find j (strike (expires back p.flushes) p.list) ≡ Some n → Live p n × (expires back p.flushes n ≡ false)
   stamp-left p ok back j n e = go (find j p.list) refl (sym (find-strike (expires back p.flushes) j p.list ok.once) ∙ e)
     where
-      go : (o : Option ℕ) → find j p.list ≡ o → unless (expires back p.flushes) o ≡ some n → Live p n × (expires back p.flushes n ≡ false)
-      go none was now = let z : ◌≡◌ {A = ℕ} 0 1 = cc in absurd (omega arith)
-      go (some m) was now = either (expires back p.flushes m)
-          (λ h. let z : none ≡ some n = simp h at now in let z : ◌≡◌ {A = ℕ} 0 1 = cc in absurd (omega arith))
-          (λ h. let same : some m ≡ some n = simp h at now in let e : m ≡ n = cc in rw (← e) (ok.stamps j m was, h))
+      go : (o : Option ℕ) → find j p.list ≡ o → unless (expires back p.flushes) o ≡ Some n → Live p n × (expires back p.flushes n ≡ false)
+      go None was now = let z : ◌≡◌ {A = ℕ} 0 1 = cc in absurd (omega arith)
+      go (Some m) was now = either (expires back p.flushes m)
+          (λ h. let z : None ≡ Some n = simp h at now in let z : ◌≡◌ {A = ℕ} 0 1 = cc in absurd (omega arith))
+          (λ h. let same : Some m ≡ Some n = simp h at now in let e : m ≡ n = cc in rw (← e) (ok.stamps j m was, h))
 
   -- so it is still live
-  flushed-stamps : (p : Part) → PartOk g p → (j n : ℕ) → find j (strike (expires g.kept p.flushes) p.list) ≡ some n → Live (flushed g p) n
+  flushed-stamps : (p : Part) → PartOk g p → (j n : ℕ) → find j (strike (expires g.kept p.flushes) p.list) ≡ Some n → Live (flushed g p) n
   unfolding flushed
   flushed-stamps p ok j n e =
       let left = stamp-left p ok g.kept j n e in
@@ -117,7 +117,7 @@ module _ (g : Geometry) (p : Part) (ok : PartOk g p) where
       same zero = refl
       same (suc a) = refl
 
-  dropped-stamps : (j n : ℕ) → find j (strike (expires p.live p.flushes) p.list) ≡ some n → Live (dropped p) n
+  dropped-stamps : (j n : ℕ) → find j (strike (expires p.live p.flushes) p.list) ≡ Some n → Live (dropped p) n
   unfolding dropped
   dropped-stamps j n e =
       let left = stamp-left g p ok p.live j n e in

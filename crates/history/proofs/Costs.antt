@@ -3,7 +3,7 @@ use Prim.Native.Nat.{ℕ, ◌+◌, ◌*◌, ◌≤◌}
 use mathlib.Core.Bool.{false, cond, not, true≢false}
 use mathlib.Core.Path.{◌≡◌, refl, sym, ◌∙◌, ap}
 use mathlib.Core.List.{List, [], ◌∷◌}
-use mathlib.Core.Option.{Option, none, some}
+use Rattle.std.specs.Prelude.{Option, None, Some}
 use native.Mathlib.Nat.{add-zero, zero-add, add_assoc, mul-suc}
 use native.Mathlib.Omega.{arith}
 use lib.ListN.{length}
@@ -49,8 +49,8 @@ module _ (g : Geometry) (k : ℕ) (f : List ℕ) where
       → is_refused (hit_in (page n) (reported g (with_page g k f n c)) (batch n) o later) ≡ false → (is_refused later ≡ false → After (with_page g k f n c) rest later)
       → After c (n ∷ cond (not (is_some o)) rest []) (hit_in (page n) (reported g (with_page g k f n c)) (batch n) o later)
   unfolding compared_in
-  with-page n c later rest (some i) fits ok goes_on = record { reads = refl; comparisons = rw add-zero; bounded = omega (arith, compared-most k (page n)) }
-  with-page n c later rest none fits ok goes_on =
+  with-page n c later rest (Some i) fits ok goes_on = record { reads = refl; comparisons = rw add-zero; bounded = omega (arith, compared-most k (page n)) }
+  with-page n c later rest None fits ok goes_on =
       let w = goes_on ok in
       record {
         reads = w.reads ∙ ap (reads_for g) (omega arith);
@@ -81,8 +81,8 @@ module _ (g : Geometry) (k : ℕ) (f : List ℕ) where
 
     in_buffer : (o : Option ℕ) → is_refused (hit_in own cost buffer o later) ≡ false → let ns : List ℕ = cond (is_some o) [] (read (passing g k p)) in Sought (compared k own + compared_in g k f ns) ns (hit_in own cost buffer o later)
     unfolding compared_in
-    in_buffer (some i) ok = record { reads = sym (reads_none g); comparisons = rw add-zero; bounded = omega (arith, compared-most k own) }
-    in_buffer none ok =
+    in_buffer (Some i) ok = record { reads = sym (reads_none g); comparisons = rw add-zero; bounded = omega (arith, compared-most k own) }
+    in_buffer None ok =
         let w = through (passing g k p) cost ok in
         record {
           reads = w.reads ∙ ap (reads_for g) (zero-add _);
@@ -95,16 +95,16 @@ module _ (g : Geometry) (k : ℕ) (f : List ℕ) where
     sought-costs ok = go (listed_at (listed_of p) k (list_of g p)) refl
       where
         go : (o : Option ℕ) → listed_at (listed_of p) k (list_of g p) ≡ o → Sought (entries_compared g k p f) (batches_read g k p f) (sought g k p f)
-        go (some i) e = rw (sought-listed g k f p i e, e) (record { reads = sym (reads_none g); comparisons = refl; bounded = omega arith })
-        go none e = rw (sought-unlisted g k f p e, e) (in_buffer (searched k own) (rw (sought-unlisted g k f p e) at ok))
+        go (Some i) e = rw (sought-listed g k f p i e, e) (record { reads = sym (reads_none g); comparisons = refl; bounded = omega arith })
+        go None e = rw (sought-unlisted g k f p e, e) (in_buffer (searched k own) (rw (sought-unlisted g k f p e) at ok))
 
 pub gets-cost : GetsCost
 unfolding GetsCost checks
 gets-cost a k ok = go (checks a (get k)) refl
   where
     go : (o : Option Refusal) → checks a (get k) ≡ o → Cost a k
-    go (some r) e = absurd (true≢false (rw (reply-refused a (get k) r e) at ok))
-    go none e =
+    go (Some r) e = absurd (true≢false (rw (reply-refused a (get k) r e) at ok))
+    go None e =
         let g = geometry_in a in
         let p = key_partition a k in
         let answers : reply a (get k) ≡ sought g k p a.flash = reply-accepted a (get k) e ∙ result-get a g refl k in

@@ -2,7 +2,7 @@
 use Prim.Native.Nat.{ℕ, suc, ◌^◌, ◌≤◌, ◌<◌}
 use mathlib.Core.Path.{◌≡◌, refl, sym, ◌∙◌, ap}
 use mathlib.Core.List.{◌∷◌}
-use mathlib.Core.Option.{some}
+use Rattle.std.specs.Prelude.{Some}
 use native.Mathlib.Omega.{arith}
 use lib.ListN.{length}
 use Rattle.model.specs.declared.Geometry.{Geometry}
@@ -59,7 +59,7 @@ module _ (a : Areas) (h : History) (inv : InStep a h) where
         ∙ sought-shown g inv.shows.ok k _ a.flash s shown within
         ∙ (looked_up-known g k s within (page-of-lt g inv.shows.ok k) (find k s.list) (find k (s.buffer (page_of g k))) (h.keys k) refl (inv.good.core.keys k))
 
-    pub says : said (reply a (get k)) ≡ some (value_of (h.keys k))
+    pub says : said (reply a (get k)) ≡ Some (value_of (h.keys k))
     says = said-bare (reply a (get k)) ∙ ap said_of placed ∙ said-known s.flushes (h.keys k)
 
     cost : Cost a k

@@ -3,7 +3,7 @@ use Prim.Native.Nat.{ℕ, ◌+◌, ◌-◌, ◌^◌, ◌≤◌, ◌<◌}
 use mathlib.Core.Bool.{true, false}
 use mathlib.Core.Path.{◌≡◌, sym, ◌∙◌, ap}
 use mathlib.Core.List.{List}
-use mathlib.Core.Option.{Option, some}
+use Rattle.std.specs.Prelude.{Option, Some}
 use native.Mathlib.Omega.{arith}
 use lib.ListN.{length}
 use Rattle.model.specs.declared.Geometry.{Geometry}
@@ -59,7 +59,7 @@ module _ (g : Geometry) (ok : allowed g ≡ true) (t : ℕ) (p f : List ℕ) (s 
       let words : HeadWords (head_of (buffered g k v p)) = rw (laid-buffered g ok p shows.long k v).head shows.words in
       total-unlisted g ok (buffered g k v p) (length-buffered g k v p ∙ shows.long) words k ∙ total-buffered g ok p shows.long k v
 
-  total-del : (o : Option ℕ) → ((n : ℕ) → o ≡ some n → listed_of p < g.list) → total_of (listed_with o g k (unbuffered g k p)) ≡ total_of p
+  total-del : (o : Option ℕ) → ((n : ℕ) → o ≡ Some n → listed_of p < g.list) → total_of (listed_with o g k (unbuffered g k p)) ≡ total_of p
   total-del o free =
       let same : head_of (unbuffered g k p) ≡ head_of p = (laid-unbuffered g ok p shows.long k).head in
       let words : HeadWords (head_of (unbuffered g k p)) = rw same shows.words in
@@ -125,7 +125,7 @@ module _ (g : Geometry) (ok : allowed g ≡ true) (t : ℕ) (p f : List ℕ) (s 
         (λ h. rw (deleted-listed g k p (list-has shows k ∙ h)) (simp h was))
         (λ h.
         let new : is_listed g k p ≡ false = list-has shows k ∙ h in
-        let free : (n : ℕ) → stamp_for g k p ≡ some n → listed_of p < g.list = λ n e. omega (arith, room (sym (must-list-shown g ok t p f s shows k part.live_flushed) ∙ rw (new, e)), list_count shows) in
+        let free : (n : ℕ) → stamp_for g k p ≡ Some n → listed_of p < g.list = λ n e. omega (arith, room (sym (must-list-shown g ok t p f s shows k part.live_flushed) ∙ rw (new, e)), list_count shows) in
         rw (deleted-stamped g k p new, ← (removes-taken g k p new))
         (counted-totalled g ok t _ f _ (shows-deleted g ok t p f s shows part k hk h room) del-room 0 (removes g k p)
         (ap (λ (n : ℕ). n + 0) (total-del g ok t p f s shows k (stamp_for g k p) free) ∙ del-ends)))

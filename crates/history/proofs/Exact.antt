@@ -3,7 +3,7 @@ use Prim.Native.Nat.{ℕ, zero, suc, ◌+◌, ◌*◌, ◌≤◌, ◌<◌}
 use mathlib.Core.Bool.{true}
 use mathlib.Core.Path.{◌≡◌, refl, sym, ◌∙◌, ap}
 use mathlib.Core.List.{List}
-use mathlib.Core.Option.{none, some}
+use Rattle.std.specs.Prelude.{None, Some}
 use native.Mathlib.Omega.{arith}
 use native.Mathlib.Decide.{ℕ_discrete}
 use lib.Dec.{eqb}
@@ -29,7 +29,7 @@ use Rattle.history.proofs.Shows.{ShowsPart, live-by-head, live-by-table}
 use Rattle.history.proofs.InStep.{InStep}
 
 -- where no key stands twice, a search for a record's key finds that record
-find-own : (w n a i : ℕ) (xs : List ℕ) → Distinct (entries_from w n a xs) → a ≤ i → i < a + n → find (key_at xs i) (entries_from w n a xs) ≡ some (word w xs (16 * i + 8))
+find-own : (w n a i : ℕ) (xs : List ℕ) → Distinct (entries_from w n a xs) → a ≤ i → i < a + n → find (key_at xs i) (entries_from w n a xs) ≡ Some (word w xs (16 * i + 8))
 unfolding find entries_from
 find-own w zero a i xs d low high = absurd (omega arith)
 find-own w (suc n) a i xs d low high = elim (ℕ_discrete i a) [
@@ -37,7 +37,7 @@ find-own w (suc n) a i xs d low high = elim (ℕ_discrete i a) [
   | no e ↦
       (let own = find-own w n (a + 1) i xs d.1 (omega arith) (omega arith) in
       either (eqb (key_at xs i) (key_at xs a))
-      (λ h. let same : key_at xs i ≡ key_at xs a = eqb-true _ _ h in let twice : find (key_at xs i) (entries_from w n (a + 1) xs) ≡ none = rw same d.0 in cc)
+      (λ h. let same : key_at xs i ≡ key_at xs a = eqb-true _ _ h in let twice : find (key_at xs i) (entries_from w n (a + 1) xs) ≡ None = rw same d.0 in cc)
       (λ h. simp h own))
 ]
 

@@ -3,7 +3,7 @@ use Prim.Native.Nat.{ℕ, zero, suc, ◌+◌, ◌-◌}
 use mathlib.Core.Bool.{Bool, true, false, cond, not, ◌&&◌}
 use mathlib.Core.Path.{◌≡◌, refl}
 use mathlib.Core.List.{List, [], ◌∷◌, ◌++◌, append_assoc, append-nil}
-use mathlib.Core.Option.{Option, none, some}
+use Rattle.std.specs.Prelude.{Option, None, Some}
 use Rattle.model.specs.declared.Geometry.{Geometry}
 use Rattle.model.specs.Search.{is_some}
 use Rattle.model.specs.Keys.{partition_of, page_of}
@@ -29,7 +29,7 @@ module _ (a : Areas) (k : ℕ) where
   abbrev page : ℕ → List ℕ
   page n = batch_page g (partition_of g k) a.flash n (page_of g k)
 
-  lack-one-more : (ns : List ℕ) (n : ℕ) → AllLack a k ns → is_passed a k n ≡ true → held_in a k n ≡ none → AllLack a k (ns ++ n ∷ [])
+  lack-one-more : (ns : List ℕ) (n : ℕ) → AllLack a k ns → is_passed a k n ≡ true → held_in a k n ≡ None → AllLack a k (ns ++ n ∷ [])
   lack-one-more [] n lacking passed lacks = (passed, lacks, tt)
   lack-one-more (m ∷ ms) n lacking passed lacks = (lacking.0, lacking.1, lack-one-more ms n lacking.2 passed lacks)
 
@@ -38,8 +38,8 @@ module _ (a : Areas) (k : ℕ) where
     page-read : (AllLack a k (before ++ n ∷ []) → Follows a k later ((before ++ n ∷ []) ++ rest)) → (b : Bool) (o : Option ℕ) → searched k (page n) ≡ o
         → Follows a k (cond b (hit_in (page n) c (batch n) o later) (refused 13 reads)) (before ++ n ∷ cond (b && not (is_some o)) rest [])
     page-read goes_on false o e = tt
-    page-read goes_on true (some i) e = record { before = before; last = refl; lacking = lacking; passed = passed; holds = rw e }
-    page-read goes_on true none e = rw (← append_assoc before (n ∷ []) rest) (goes_on (lack-one-more before n lacking passed (rw e)))
+    page-read goes_on true (Some i) e = record { before = before; last = refl; lacking = lacking; passed = passed; holds = rw e }
+    page-read goes_on true None e = rw (← append_assoc before (n ∷ []) rest) (goes_on (lack-one-more before n lacking passed (rw e)))
 
   walked : (count n : ℕ) (c : Tally) (before : List ℕ) → AllLack a k before
       → Follows a k (read_through g k a.flash (passing_from g k p count n) c) (before ++ read_of g k a.flash (passing_from g k p count n))
@@ -53,17 +53,17 @@ module _ (a : Areas) (k : ℕ) where
   in_buffer : (c : Tally) (o : Option ℕ) → searched k (buffer_of g p (page_of g k)) ≡ o → Follows a k (hit_in (buffer_of g p (page_of g k)) c buffer o (read_through g k a.flash (passing g k p) c))
       (cond (is_some o) [] (read_of g k a.flash (passing g k p)))
   unfolding passing
-  in_buffer c (some i) e = (refl, rw e)
-  in_buffer c none e = walked (live_of p) (flushes_of p) c [] tt
+  in_buffer c (Some i) e = (refl, rw e)
+  in_buffer c None e = walked (live_of p) (flushes_of p) c [] tt
 
   in_list : (o : Option ℕ) → listed_at (listed_of p) k (list_of g p) ≡ o → Follows a k (sought g k p a.flash) (read_by a k)
   unfolding batches_read
-  in_list (some i) e = rw (sought-listed g k a.flash p i e, e) tt
-  in_list none e = rw (sought-unlisted g k a.flash p e, e) (in_buffer (tally 0 (compared k (buffer_of g p (page_of g k)))) (searched k (buffer_of g p (page_of g k))) refl)
+  in_list (Some i) e = rw (sought-listed g k a.flash p i e, e) tt
+  in_list None e = rw (sought-unlisted g k a.flash p e, e) (in_buffer (tally 0 (compared k (buffer_of g p (page_of g k)))) (searched k (buffer_of g p (page_of g k))) refl)
 
   pub follows : Follows a k (reply a (get k)) (read_by a k)
   follows = go (checks a (get k)) refl
     where
       go : (o : Option Refusal) → checks a (get k) ≡ o → Follows a k (reply a (get k)) (read_by a k)
-      go (some r) e = rw (reply-refused a (get k) r e) tt
-      go none e = rw (reply-accepted a (get k) e, result-get a g refl k) (in_list (listed_at (listed_of p) k (list_of g p)) refl)
+      go (Some r) e = rw (reply-refused a (get k) r e) tt
+      go None e = rw (reply-accepted a (get k) e, result-get a g refl k) (in_list (listed_at (listed_of p) k (list_of g p)) refl)

@@ -3,7 +3,7 @@ use Prim.Native.Nat.{ℕ, zero, suc, ◌+◌, ◌*◌, ◌≤◌, ◌<◌}
 use mathlib.Core.Bool.{Bool, true, false, cond, not}
 use mathlib.Core.List.{[]}
 use mathlib.Core.Path.{◌≡◌, refl, ap}
-use mathlib.Core.Option.{none, some}
+use Rattle.std.specs.Prelude.{None, Some}
 use native.Mathlib.Omega.{arith}
 use native.Mathlib.Nat.{add-zero, mul-le-mul_left}
 use lib.Dec.{eqb}
@@ -34,11 +34,11 @@ pub record Good (ps : ℕ → Part) (h : History) : Type 0 where
   pub core : Core ps h
   pub credit : Credit h.geometry ps h.puts h.put_pages
 
-empty-key : (g : Geometry) (k : ℕ) → KeyOk g empty k none
+empty-key : (g : Geometry) (k : ℕ) → KeyOk g empty k None
 unfolding find
-empty-key g k = absent {f = seen g empty k} (λ b l. elim b as (λ b. seen g empty k b ≡ none) [ zero ↦ refl | suc a ↦ refl ])
+empty-key g k = absent {f = seen g empty k} (λ b l. elim b as (λ b. seen g empty k b ≡ None) [ zero ↦ refl | suc a ↦ refl ])
 
-none-listed : (j n : ℕ) → find j [] ≡ some n → Live empty n
+none-listed : (j n : ℕ) → find j [] ≡ Some n → Live empty n
 unfolding find
 none-listed j n e = let z : ◌≡◌ {A = ℕ} 0 1 = cc in absurd (omega arith)
 
@@ -92,13 +92,13 @@ module _ (ps : ℕ → Part) (h : History) (good : Good ps h) where
 
   pub good-del : (k : ℕ) → partition_of h.geometry k < partitions h.geometry
       → (must_list h.geometry k (ps (partition_of h.geometry k)) ≡ true → length (ps (partition_of h.geometry k)).list < h.geometry.list)
-      → Good (modify (partition_of h.geometry k) (deleted h.geometry k) ps) (with_key k none h)
+      → Good (modify (partition_of h.geometry k) (deleted h.geometry k) ps) (with_key k None h)
   good-del k below room =
       let g = h.geometry in
       let t : ℕ = partition_of g k in
       record {
         fine = good.fine;
-        core = core-touch h k none (deleted g k) ps good.core
+        core = core-touch h k None (deleted g k) ps good.core
             (deleted-touch g k _ (good.core.parts _) (good.fine.page_below k) _ (good.core.keys k) room);
         credit = credit-change g ps t below (deleted g k) (entries_in g (ps t)) _ _ _ _
             (deleted-entries g (ps t) k (good.fine.page_below k)) good.credit (omega arith);
@@ -109,7 +109,7 @@ good-store : (h : History) → Fine h.geometry → (ps : ℕ → Part) (n : ℕ)
     → Credit h.geometry ps h.puts (h.put_pages + n)
     → (k v : ℕ) → partition_of h.geometry k < partitions h.geometry
     → length (store k v ((ps (partition_of h.geometry k)).buffer (page_of h.geometry k))) ≤ capacity h.geometry
-    → Good (modify (partition_of h.geometry k) (stored h.geometry k v) ps) (counted n (with_key k (some (record { value = v; age = 0 })) h))
+    → Good (modify (partition_of h.geometry k) (stored h.geometry k v) ps) (counted n (with_key k (Some (record { value = v; age = 0 })) h))
 good-store h fine ps n core credit k v below room =
     let g = h.geometry in
     let t : ℕ = partition_of g k in
@@ -124,7 +124,7 @@ module _ (ps : ℕ → Part) (h : History) (good : Good ps h) where
   pub good-put : (k v : ℕ) → partition_of h.geometry k < partitions h.geometry → (b : Bool)
       → due h.geometry k (ps (partition_of h.geometry k)) ≡ b
       → Good (modify (partition_of h.geometry k) (stored h.geometry k v) (cond b (modify (partition_of h.geometry k) (flushed h.geometry) ps) ps))
-      (counted (cond b h.geometry.pages 0) (with_key k (some (record { value = v; age = 0 })) (cond b (aged (partition_of h.geometry k) h) h)))
+      (counted (cond b h.geometry.pages 0) (with_key k (Some (record { value = v; age = 0 })) (cond b (aged (partition_of h.geometry k) h) h)))
   good-put k v below false e = good-store h good.fine ps 0 good.core (rw add-zero good.credit) k v below
       (room-free h.geometry k _ v (good.core.parts _) e)
   good-put k v below true e =

@@ -3,7 +3,7 @@ use Prim.Native.Nat.{ℕ, ◌+◌, ◌^◌, ◌≤◌, ◌<◌}
 use mathlib.Core.Bool.{true, false}
 use mathlib.Core.Path.{◌≡◌, refl, sym, ◌∙◌}
 use mathlib.Core.List.{List}
-use mathlib.Core.Option.{none}
+use Rattle.std.specs.Prelude.{None}
 use native.Mathlib.Omega.{arith}
 use lib.Dec.{eqb}
 use Rattle.model.specs.declared.Geometry.{Geometry}
@@ -47,7 +47,7 @@ by-table {ps} by = record { table = ps; shows = by.shows; counted = by.counted; 
 fine_of : (g : Geometry) → allowed g ≡ true → Fine g
 fine_of g ok = record { page_below = page-of-lt g ok; some_page = (sizes g ok).pages-min; some_entry = omega (arith, (sizes g ok).capacity-min) }
 
-pub format-kept : (a : Areas) (g : Geometry) → checks a (format g) ≡ none → InStepBy (effect a (format g)) (blank g) (λ t. empty)
+pub format-kept : (a : Areas) (g : Geometry) → checks a (format g) ≡ None → InStepBy (effect a (format g)) (blank g) (λ t. empty)
 format-kept a g e =
     let passed = format-accepted g a (sym (checks-format a g) ∙ e) in
     rw (effect-format a g) (record {
@@ -56,7 +56,7 @@ format-kept a g e =
       good = good-blank g (fine_of g passed.0);
     })
 
-pub format-keeps : (a : Areas) (g : Geometry) → checks a (format g) ≡ none → InStep (effect a (format g)) (blank g)
+pub format-keeps : (a : Areas) (g : Geometry) → checks a (format g) ≡ None → InStep (effect a (format g)) (blank g)
 format-keeps a g e = by-table (format-kept a g e)
 
 -- flash with the batch of partition t written
@@ -92,7 +92,7 @@ module _ (a : Areas) (h : History) (inv : InStep a h) where
           shows-changed a g inv.table inv.shows t below c c' (batch_written a g t) (length-with_batch g t _ g.pages a.flash)
           (λ u j q other lu lj lq. batch-out g inv.shows.ok t below _ a.flash inv.shows.flash_fits g.pages u j q (omega arith) lu lj lq (λ e f. other e)) now.shown
 
-  pub flush-kept : (t : ℕ) → checks a (flush t) ≡ none → InStepBy (effect a (flush t)) (aged t h) (modify t (flushed_part g) inv.table)
+  pub flush-kept : (t : ℕ) → checks a (flush t) ≡ None → InStepBy (effect a (flush t)) (aged t h) (modify t (flushed_part g) inv.table)
   flush-kept t e =
       let own = inv.shows.geometry in
       let p : List ℕ = partition g t a.memory in
@@ -106,10 +106,10 @@ module _ (a : Areas) (h : History) (inv : InStep a h) where
         good = good-flush inv.table h inv.good t below;
       })
 
-  pub flush-keeps : (t : ℕ) → checks a (flush t) ≡ none → InStep (effect a (flush t)) (aged t h)
+  pub flush-keeps : (t : ℕ) → checks a (flush t) ≡ None → InStep (effect a (flush t)) (aged t h)
   flush-keeps t e = by-table (flush-kept t e)
 
-  pub drop-kept : (t : ℕ) → checks a (drop t) ≡ none → InStepBy (effect a (drop t)) (lowered t h) (modify t dropped_part inv.table)
+  pub drop-kept : (t : ℕ) → checks a (drop t) ≡ None → InStepBy (effect a (drop t)) (lowered t h) (modify t dropped_part inv.table)
   drop-kept t e =
       let own = inv.shows.geometry in
       let p : List ℕ = partition g t a.memory in
@@ -123,5 +123,5 @@ module _ (a : Areas) (h : History) (inv : InStep a h) where
         good = good-drop inv.table h inv.good t below any;
       })
 
-  pub drop_keeps : (t : ℕ) → checks a (drop t) ≡ none → InStep (effect a (drop t)) (lowered t h)
+  pub drop_keeps : (t : ℕ) → checks a (drop t) ≡ None → InStep (effect a (drop t)) (lowered t h)
   drop_keeps t e = by-table (drop-kept t e)

@@ -2,7 +2,7 @@
 use Prim.Native.Nat.{ℕ, ◌^◌, ◌<◌}
 use mathlib.Core.Bool.{Bool, true, false, cond, ◌&&◌}
 use mathlib.Core.Path.{◌≡◌, refl, sym, ◌∙◌}
-use mathlib.Core.Option.{none, some}
+use Rattle.std.specs.Prelude.{None, Some}
 use native.Mathlib.Omega.{arith}
 use lib.Dec.{eqb}
 use lib.ListN.{length}
@@ -37,7 +37,7 @@ table_put g ps k v b = modify (partition_of g k) (stored_part g k v) (cond b (mo
 
 abbrev pub history_put : History → ℕ → ℕ → Bool → History
 history_put h k v b =
-    counted (cond b h.geometry.pages 0) (with_key k (some (record { value = v; age = 0 })) (cond b (aged (partition_of h.geometry k) h) h))
+    counted (cond b h.geometry.pages 0) (with_key k (Some (record { value = v; age = 0 })) (cond b (aged (partition_of h.geometry k) h) h))
 
 module _ (a : Areas) (h : History) (inv : InStep a h) (k : ℕ) (hk : k < 2 ^ 64) where
   abbrev g : Geometry
@@ -58,13 +58,13 @@ module _ (a : Areas) (h : History) (inv : InStep a h) (k : ℕ) (hk : k < 2 ^ 64
   part : PartOk g s
   part = inv.good.core.parts t
 
-  free-place : checks a (del k) ≡ none → must_list g k s ≡ true → length s.list < g.list
+  free-place : checks a (del k) ≡ None → must_list g k s ≡ true → length s.list < g.list
   free-place e must =
-      let free = (refuse-none (must_list g k s && eqb (length s.list) g.list) 14 none (sym (del-checks inv k hk) ∙ e)).0 in
+      let free = (refuse-none (must_list g k s && eqb (length s.list) g.list) 14 None (sym (del-checks inv k hk) ∙ e)).0 in
       let less : eqb (length s.list) g.list ≡ false = simp must at free in
       omega (numbers, (inv.good.core.parts t).list_fits)
 
-  pub del-kept : checks a (del k) ≡ none → InStepBy (effect a (del k)) (with_key k none h) (modify t (deleted_part g k) inv.table)
+  pub del-kept : checks a (del k) ≡ None → InStepBy (effect a (del k)) (with_key k None h) (modify t (deleted_part g k) inv.table)
   del-kept e =
       let now = del-counted g inv.shows.ok t _ _ s was part k hk (free-place e) in
       rw (effect-del a g inv.shows.geometry k) (record {
@@ -73,7 +73,7 @@ module _ (a : Areas) (h : History) (inv : InStep a h) (k : ℕ) (hk : k < 2 ^ 64
         good = good-del inv.table h inv.good k below (free-place e);
       })
 
-  pub del-keeps : checks a (del k) ≡ none → InStep (effect a (del k)) (with_key k none h)
+  pub del-keeps : checks a (del k) ≡ None → InStep (effect a (del k)) (with_key k None h)
   del-keeps e = by-table (del-kept e)
 
   module _ (v : ℕ) (hv : v < 2 ^ 64) where
@@ -83,13 +83,13 @@ module _ (a : Areas) (h : History) (inv : InStep a h) (k : ℕ) (hk : k < 2 ^ 64
     pub put-result : result a (put k v) ≡ done (cond (due_in g k s) g.pages 0)
     put-result = result-put a g inv.shows.geometry k v (due_in g k s) is-due
 
-    number-left : checks a (put k v) ≡ none → due_in g k s ≡ true → eqb s.flushes last_flush ≡ false
+    number-left : checks a (put k v) ≡ None → due_in g k s ≡ true → eqb s.flushes last_flush ≡ false
     number-left e d =
         let later = (refuse-none (no_position v) 21 _ (sym (put-checks inv k hk v) ∙ e)).1 in
-        let free = (refuse-none (due_in g k s && eqb s.flushes last_flush) 16 none later).0 in
+        let free = (refuse-none (due_in g k s && eqb s.flushes last_flush) 16 None later).0 in
         simp d at free
 
-    pub put-kept : checks a (put k v) ≡ none → (b : Bool) → due_in g k s ≡ b → InStepBy (effect a (put k v)) (history_put h k v b) (table_put g inv.table k v b)
+    pub put-kept : checks a (put k v) ≡ None → (b : Bool) → due_in g k s ≡ b → InStepBy (effect a (put k v)) (history_put h k v b) (table_put g inv.table k v b)
     put-kept e false d =
         let now = put-counted g inv.shows.ok t _ _ s was part k v d hk hv in
         rw (effect-put a g inv.shows.geometry k v false (is-due ∙ d)) (record {
@@ -106,7 +106,7 @@ module _ (a : Areas) (h : History) (inv : InStep a h) (k : ℕ) (hk : k < 2 ^ 64
           good = good-put inv.table h inv.good k v below true d;
         })
 
-    pub put_keeps : checks a (put k v) ≡ none → InStep (effect a (put k v)) (note h (putting k v (cond (due_in g k s) g.pages 0)))
+    pub put_keeps : checks a (put k v) ≡ None → InStep (effect a (put k v)) (note h (putting k v (cond (due_in g k s) g.pages 0)))
     unfolding note
     put_keeps e = go (due_in g k s) refl
       where

@@ -3,7 +3,7 @@ use Prim.Native.Nat.{ℕ, ◌+◌, ◌^◌, ◌≤◌, ◌<◌}
 use mathlib.Core.Bool.{false, false≢true}
 use mathlib.Core.Path.{◌≡◌, refl, sym, ◌∙◌, ap}
 use mathlib.Core.List.{List, [], ◌∷◌, append-nil}
-use mathlib.Core.Option.{Option, none, some}
+use Rattle.std.specs.Prelude.{Option, None, Some}
 use native.Mathlib.Omega.{arith}
 use lib.ListN.{length}
 use borrow.Author.Tests.{le-ltb}
@@ -47,7 +47,7 @@ fresh g t values b e =
     })
 
 -- a get says a value only where it finds one
-unfound : (x : Answer) (v : ℕ) → said x ≡ some (some v) → ((c : Tally) (at : Place) → x ≡ found v c at → ⊥) → ⊥
+unfound : (x : Answer) (v : ℕ) → said x ≡ Some (Some v) → ((c : Tally) (at : Place) → x ≡ found v c at → ⊥) → ⊥
 unfound (found w c at) v e never = never c at (let same : w ≡ v = cc in rw same)
 unfound (absent c) v e never = let z : ◌≡◌ {A = ℕ} 0 1 = cc in omega arith
 unfound (done n) v e never = let z : ◌≡◌ {A = ℕ} 0 1 = cc in omega arith
@@ -99,17 +99,17 @@ module _ (a : Areas) (h : History) (inv : InStep a h) (positions : AllPositions 
         (rw (inv.shows.part t inside).live (inv.good.core.parts t).live_kept) start (blank g) (fresh g t values b accepted)
 
     -- a key of the partition that is not known then was not known
-    unknown : (k : ℕ) → k < 2 ^ 64 → partition_of g k ≡ t → ends.history.keys k ≡ none → (o : Option ℕ) → values k ≡ o → none ≡ o
-    unknown k hk own e none was = refl
-    unknown k hk own e (some v) was = absurd (unfound (sought g k p a.flash) v (sought-says a h inv t inside k hk own ∙ ap some was)
+    unknown : (k : ℕ) → k < 2 ^ 64 → partition_of g k ≡ t → ends.history.keys k ≡ None → (o : Option ℕ) → values k ≡ o → None ≡ o
+    unknown k hk own e None was = refl
+    unknown k hk own e (Some v) was = absurd (unfound (sought g k p a.flash) v (sought-says a h inv t inside k hk own ∙ ap Some was)
         (λ c at x. false≢true (sym (ap is_some e) ∙ ends.knows k (found-line k v c at own x))))
 
     same-value : (k : ℕ) → k < 2 ^ 64 → partition_of g k ≡ t → value_of (ends.history.keys k) ≡ values k
     same-value k hk own = go (ends.history.keys k) refl (ends.holds.keys k)
       where
         go : (o : Option Known) → ends.history.keys k ≡ o → KeyAt (ends.holds.in_step.table t).flushes (values k) o → value_of o ≡ values k
-        go none e at = unknown k hk own e (values k) refl
-        go (some w) e at = sym at.1
+        go None e at = unknown k hk own e (values k) refl
+        go (Some w) e at = sym at.1
 
     leaves : lines_leave (lines_of (partition_text g t p a.flash)) start ≡ ends.areas
     unfolding lines_leave lines_of
@@ -121,7 +121,7 @@ module _ (a : Areas) (h : History) (inv : InStep a h) (positions : AllPositions 
 
     same : (k : ℕ) → k < 2 ^ 64 → partition_of g k ≡ t → said (reply (lines_leave (lines_of (partition_text g t p a.flash)) start) (get k)) ≡ said (reply a (get k))
     same k hk own =
-        rw leaves (says ends.areas ends.history ends.holds.in_step k hk ∙ ap some (same-value k hk own) ∙ sym (says a h inv k hk))
+        rw leaves (says ends.areas ends.history ends.holds.in_step k hk ∙ ap Some (same-value k hk own) ∙ sym (says a h inv k hk))
 
   moves : Moves a t
   moves = record {

@@ -3,7 +3,7 @@ use Prim.Native.Nat.{ℕ, ◌+◌, ◌*◌, ◌^◌, ◌≤◌, ◌<◌}
 use mathlib.Core.Bool.{true, false}
 use mathlib.Core.Path.{◌≡◌, refl, sym, ◌∙◌, ap}
 use mathlib.Core.List.{List, []}
-use mathlib.Core.Option.{Option, none, some}
+use Rattle.std.specs.Prelude.{Option, None, Some}
 use native.Mathlib.Omega.{arith}
 use lib.ListN.{length}
 use Rattle.model.specs.declared.Geometry.{Geometry}
@@ -38,8 +38,8 @@ module _ {g : Geometry} {t q : ℕ} {p : List ℕ} {es : List Entry} (shows : Sh
   page-has k = rw (page-find k) (same (searched k p))
     where
       same : (o : Option ℕ) → is_some o ≡ is_some (held_at 8 p o)
-      same none = refl
-      same (some i) = refl
+      same None = refl
+      same (Some i) = refl
 
   -- with its flush number it is as refusal 13 expects it
   pub page-expected : (n : ℕ) → word 4 p 8 ≡ n → expected g t n q p ≡ true
@@ -64,7 +64,7 @@ module _ {g : Geometry} {t q : ℕ} {p : List ℕ} {es : List Entry} (shows : Sh
           zero = head-stored k v p 2 6 (omega arith) (omega arith) ∙ shows.zero;
         }
       where
-        spare : searched k p ≡ none → 32 + 16 * count_of p ≤ length p
+        spare : searched k p ≡ None → 32 + 16 * count_of p ≤ length p
         spare e =
             let new : is_some (find k es) ≡ false = sym (page-has k) ∙ ap is_some e in
             omega (arith, simp (length-store, new) at free, page-count, (sizes g ok).page-is, shows.long)

@@ -2,7 +2,7 @@
 use Prim.Native.Nat.{ℕ, ◌+◌, ◌^◌, ◌<◌}
 use mathlib.Core.Bool.{Bool, true, false, cond}
 use mathlib.Core.Path.{◌≡◌, ap}
-use mathlib.Core.Option.{Option, none, some}
+use Rattle.std.specs.Prelude.{Option, None, Some}
 use native.Mathlib.Omega.{arith}
 use lib.Dec.{eqb, ltb}
 use Rattle.model.specs.Keys.{partition_of}
@@ -18,8 +18,8 @@ abbrev pub IsPosition : ℕ → Type 0
 IsPosition v = (v ≡ 0 → ⊥) × (v < 2 ^ 64)
 
 abbrev pub Position : Option Known → Type 0
-Position none = Unit {0}
-Position (some w) = IsPosition w.value
+Position None = Unit {0}
+Position (Some w) = IsPosition w.value
 
 abbrev pub AllPositions : History → Type 0
 AllPositions h = (k : ℕ) → Position (h.keys k)
@@ -30,28 +30,28 @@ cond-position false x y p q = q
 
 older-position : (kept : ℕ) (o : Option Known) → Position o → Position (older kept o)
 unfolding older
-older-position kept none p = tt
-older-position kept (some w) p = cond-position (ltb kept (w.age + 1)) none (some (record { value = w.value; age = w.age + 1 })) tt p
+older-position kept None p = tt
+older-position kept (Some w) p = cond-position (ltb kept (w.age + 1)) None (Some (record { value = w.value; age = w.age + 1 })) tt p
 
 aged-position : (t : ℕ) (h : History) → AllPositions h → AllPositions (aged t h)
 aged-position t h p k = cond-position (eqb (partition_of h.geometry k) t) _ _ (older-position h.geometry.kept (h.keys k) (p k)) (p k)
 
 unaged-position : (age : ℕ) (o : Option Known) → Position o → Position (unless_aged age o)
 unfolding unless_aged
-unaged-position age none p = tt
-unaged-position age (some w) p = cond-position (eqb w.age age) none (some w) tt p
+unaged-position age None p = tt
+unaged-position age (Some w) p = cond-position (eqb w.age age) None (Some w) tt p
 
 accepted-position : (h : History) (c : Call) (n : ℕ) → Fits c → ((k : ℕ) → c ≡ put k 0 → ⊥) → AllPositions h → AllPositions (note h (accepted c n))
 unfolding note
 accepted-position h (format g) n fits other p k = tt
 accepted-position h (put j v) n fits other p k =
-    cond-position (eqb k j) (some (record { value = v; age = 0 })) _ ((λ z. other j (ap (put j) z)), fits.1) (flushed (eqb n 0) k)
+    cond-position (eqb k j) (Some (record { value = v; age = 0 })) _ ((λ z. other j (ap (put j) z)), fits.1) (flushed (eqb n 0) k)
   where
     flushed : (b : Bool) → AllPositions (cond b h (aged (partition_of h.geometry j) h))
     flushed true = p
     flushed false = aged-position (partition_of h.geometry j) h p
 accepted-position h (get j) n fits other p k = p k
-accepted-position h (del j) n fits other p k = cond-position (eqb k j) none (h.keys k) tt (p k)
+accepted-position h (del j) n fits other p k = cond-position (eqb k j) None (h.keys k) tt (p k)
 accepted-position h (flush t) n fits other p k = aged-position t h p k
 accepted-position h (view t q m) n fits other p k = p k
 accepted-position h (count t) n fits other p k = p k
@@ -68,6 +68,6 @@ pub all-positions : FromFormat (λ a h. AllPositions h)
 all-positions = from-format (λ a h. AllPositions h) (λ a g passed k. tt) position-kept
 
 -- and so no 0 is shown
-pub value-nonzero : (o : Option Known) → Position o → some (value_of o) ≡ some (some 0) → ⊥
-value-nonzero none p e = let z : ◌≡◌ {A = ℕ} 0 1 = cc in omega arith
-value-nonzero (some w) p e = p.0 cc
+pub value-nonzero : (o : Option Known) → Position o → Some (value_of o) ≡ Some (Some 0) → ⊥
+value-nonzero None p e = let z : ◌≡◌ {A = ℕ} 0 1 = cc in omega arith
+value-nonzero (Some w) p e = p.0 cc

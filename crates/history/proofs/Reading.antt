@@ -3,7 +3,7 @@ use Prim.Native.Nat.{ℕ, ◌≤◌}
 use mathlib.Core.Bool.{Bool, true, false, cond, not}
 use mathlib.Core.Path.{◌≡◌, refl, ◌∙◌, ap}
 use mathlib.Core.List.{List, [], ◌∷◌}
-use mathlib.Core.Option.{Option, none, some}
+use Rattle.std.specs.Prelude.{Option, None, Some}
 use Rattle.model.specs.declared.Geometry.{Geometry}
 use Rattle.model.specs.Search.{is_some}
 use Rattle.model.specs.Geometry.{allowed}
@@ -29,8 +29,8 @@ use Rattle.history.proofs.Passing.{passing-shown}
 
 -- a search of a page answers with what it finds
 hit-batch : (page : List ℕ) (n : ℕ) (c : Tally) (o : Option ℕ) (later : Answer) → bare (hit_in page c (batch n) o later) ≡ answer_at (held_at 8 page o) n (bare later)
-hit-batch page n c none later = refl
-hit-batch page n c (some i) later = refl
+hit-batch page n c None later = refl
+hit-batch page n c (Some i) later = refl
 
 module _ (g : Geometry) (ok : allowed g ≡ true) (k : ℕ) (p f : List ℕ) (s : Part) (shows : ShowsPart g (partition_of g k) p f s)
     (within : s.live ≤ s.flushes) where
@@ -69,22 +69,22 @@ module _ (g : Geometry) (ok : allowed g ≡ true) (k : ℕ) (p f : List ℕ) (s 
   in_buffer = page-find (shows.buffer (page_of g k) (page-of-lt g ok k)) k
 
   -- by where the list and the buffer page have the key
-  hit-buffer : (c : Tally) (o : Option ℕ) → bare (hit_in buffered c buffer o (read_through g k f (passing g k p) c)) ≡ looked_up g k s none (held_at 8 buffered o)
-  hit-buffer c none = rw (passing-shown g ok (partition_of g k) p f s shows k within) (read_through_lem _ (passing_of g k s) c (passing-live g k s within))
-  hit-buffer c (some i) = refl
+  hit-buffer : (c : Tally) (o : Option ℕ) → bare (hit_in buffered c buffer o (read_through g k f (passing g k p) c)) ≡ looked_up g k s None (held_at 8 buffered o)
+  hit-buffer c None = rw (passing-shown g ok (partition_of g k) p f s shows k within) (read_through_lem _ (passing_of g k s) c (passing-live g k s within))
+  hit-buffer c (Some i) = refl
 
   sought-in : (o : Option ℕ) → listed_at (listed_of p) k (list_of g p) ≡ o → bare (sought g k p f) ≡ looked_up g k s (held_at 4 (list_of g p) o) (held_at 8 buffered (searched k buffered))
   unfolding buffered
-  sought-in none e = ap bare (sought-unlisted g k f p e) ∙ hit-buffer (tally 0 (compared k buffered)) (searched k buffered)
-  sought-in (some i) e = ap bare (sought-listed g k f p i e)
+  sought-in None e = ap bare (sought-unlisted g k f p e) ∙ hit-buffer (tally 0 (compared k buffered)) (searched k buffered)
+  sought-in (Some i) e = ap bare (sought-listed g k f p i e)
 
   pub sought-shown : bare (sought g k p f) ≡ looked_up g k s (find k s.list) (find k (s.buffer (page_of g k)))
   sought-shown = rw (list-find shows k, in_buffer) (sought-in (listed_at (listed_of p) k (list_of g p)) refl)
 
   read-in : (m b : Option ℕ) → cond (is_some m) [] (cond (is_some b) [] (read_of g k f (passing g k p))) ≡ batches_for g k s m b
-  read-in (some i) b = refl
-  read-in none (some v) = refl
-  read-in none none = rw (passing-shown g ok (partition_of g k) p f s shows k within) (read-of _ (passing_of g k s) (passing-live g k s within))
+  read-in (Some i) b = refl
+  read-in None (Some v) = refl
+  read-in None None = rw (passing-shown g ok (partition_of g k) p f s shows k within) (read-of _ (passing_of g k s) (passing-live g k s within))
 
   pub read-shown : batches_read g k p f ≡ batches_for g k s (find k s.list) (find k (s.buffer (page_of g k)))
   unfolding batches_read

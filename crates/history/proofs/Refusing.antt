@@ -4,7 +4,7 @@ use Prim.Native.Nat.{ℕ, ◌<◌}
 use mathlib.Core.Bool.{Bool, true, false, false≢true, not, ◌&&◌, ◌||◌}
 use mathlib.Core.Path.{◌≡◌, refl, sym}
 use mathlib.Core.List.{List, [], ◌∷◌}
-use mathlib.Core.Option.{Option, none, some}
+use Rattle.std.specs.Prelude.{Option, None, Some}
 use native.Mathlib.Omega.{arith}
 use native.Mathlib.Decide.{dec_le}
 use lib.Dec.{eqb, ltb}
@@ -56,16 +56,16 @@ Among ns (shown s) = Unit {0}
 
 -- the same of what checks say
 abbrev Give : List ℕ → Option Refusal → Type 0
-Give ns none = Unit {0}
-Give ns (some r) = Among ns (refused r.number r.reads)
+Give ns None = Unit {0}
+Give ns (Some r) = Among ns (refused r.number r.reads)
 
 give-if : (ns : List ℕ) (b : Bool) (n : ℕ) (later : Option Refusal) → any (eqb n) ns ≡ true → Give ns later → Give ns (refuse_if b n later)
 give-if ns true n later e rest = (e, refl)
 give-if ns false n later e rest = rest
 
-among : (a : Areas) (c : Call) (ns : List ℕ) (o : Option Refusal) → checks a c ≡ o → Give ns o → (o ≡ none → Among ns (result a c)) → Among ns (reply a c)
-among a c ns (some r) e given ends = rw (reply-refused a c r e) given
-among a c ns none e given ends = rw (reply-accepted a c e) (ends refl)
+among : (a : Areas) (c : Call) (ns : List ℕ) (o : Option Refusal) → checks a c ≡ o → Give ns o → (o ≡ None → Among ns (result a c)) → Among ns (reply a c)
+among a c ns (Some r) e given ends = rw (reply-refused a c r e) given
+among a c ns None e given ends = rw (reply-accepted a c e) (ends refl)
 
 format-gives : (a : Areas) (g : Geometry) → Give (1 ∷ 2 ∷ 3 ∷ []) (format_checks g a)
 unfolding any
@@ -79,7 +79,7 @@ format-gives a g = either (allowed g)
     ])
     (λ no. rw (format-1 g a no) (refl, refl))
 
-accepted : (x : Answer) (v : Option ℕ) → said x ≡ some v → Among [] x
+accepted : (x : Answer) (v : Option ℕ) → said x ≡ Some v → Among [] x
 accepted (done n) v e = tt
 accepted (found w r p) v e = tt
 accepted (absent r) v e = tt
@@ -113,16 +113,16 @@ module _ (a : Areas) (h : History) (inv : InStep a h) where
       let ns : List ℕ = 21 ∷ 16 ∷ [] in
       let last = due g k (of k) && eqb (of k).flushes last_flush in
       among a (put k v) ns _ (put-checks inv k fits.0 v)
-      (give-if ns (no_position v) 21 (refuse_if last 16 none) refl (give-if ns last 16 none refl tt)) (λ e. rw (result-put a _ refl k v _ refl) tt)
+      (give-if ns (no_position v) 21 (refuse_if last 16 None) refl (give-if ns last 16 None refl tt)) (λ e. rw (result-put a _ refl k v _ refl) tt)
   refusals-possible (get k) fits = accepted (reply a (get k)) _ (says a h inv k fits)
   refusals-possible (del k) fits = among a (del k) (14 ∷ []) _ (del-checks inv k fits)
-      (give-if (14 ∷ []) (must_list g k (of k) && eqb (length (of k).list) g.list) 14 none refl tt) (λ e. rw (result-del a k) tt)
+      (give-if (14 ∷ []) (must_list g k (of k) && eqb (length (of k).list) g.list) 14 None refl tt) (λ e. rw (result-del a k) tt)
   refusals-possible (flush t) fits = either (ltb t (partitions g))
       (λ l.
       let ns : List ℕ = 4 ∷ 15 ∷ 16 ∷ [] in
       let last = eqb (inv.table t).flushes last_flush in
       among a (flush t) ns _ (flush-checks inv t (ltb-true t (partitions g) l))
-      (give-if ns (not (in_use g (inv.table t))) 15 (refuse_if last 16 none) refl (give-if ns last 16 none refl tt)) (λ e. rw (result-flush a _ refl t) tt))
+      (give-if ns (not (in_use g (inv.table t))) 15 (refuse_if last 16 None) refl (give-if ns last 16 None refl tt)) (λ e. rw (result-flush a _ refl t) tt))
       (λ l. rw (reply-refused a (flush t) (unread 4) (flush-out inv t (ltb-false t (partitions g) l))) (refl, refl))
   refusals-possible (view t q n) fits = either (ltb t (partitions g) && ltb q g.pages)
       (λ e.
@@ -131,8 +131,8 @@ module _ (a : Areas) (h : History) (inv : InStep a h) where
       let page = ltb-true q g.pages both.1 in
       let dead = not (eqb n 0) && not (is_live (head_of (p t)) n) in
       among a (view t q n) (4 ∷ 17 ∷ []) _ (view-checks inv t below q n page)
-      (give-if (4 ∷ 17 ∷ []) dead 17 none refl tt)
-      (λ x. rw (result-view a g inv.shows.geometry t q n) (page-shown t q n below page (refuse-none dead 17 none x).0)))
+      (give-if (4 ∷ 17 ∷ []) dead 17 None refl tt)
+      (λ x. rw (result-view a g inv.shows.geometry t q n) (page-shown t q n below page (refuse-none dead 17 None x).0)))
       (λ e. rw (reply-refused a (view t q n) (unread 4)
       (view_out inv t q n (outside (ltb t (partitions g)) (ltb q g.pages) e))) (refl, refl))
     where
@@ -146,9 +146,9 @@ module _ (a : Areas) (h : History) (inv : InStep a h) where
       (λ l. rw (reply-refused a (count t) (unread 4) (count-out inv t (ltb-false t (partitions g) l))) (refl, refl))
   refusals-possible (text t room) fits = either (ltb t (partitions g))
       (λ l. among a (text t room) (4 ∷ 22 ∷ []) _ (text-checks inv t (ltb-true t (partitions g) l) room)
-      (give-if (4 ∷ 22 ∷ []) (ltb room (length (partition_text g t (p t) a.flash))) 22 none refl tt) (λ e. rw (result-text a _ refl t room) tt))
+      (give-if (4 ∷ 22 ∷ []) (ltb room (length (partition_text g t (p t) a.flash))) 22 None refl tt) (λ e. rw (result-text a _ refl t room) tt))
       (λ l. rw (reply-refused a (text t room) (unread 4) (text_out inv t room (ltb-false t (partitions g) l))) (refl, refl))
   refusals-possible (drop t) fits = either (ltb t (partitions g))
       (λ l. among a (drop t) (4 ∷ 23 ∷ []) _ (drop-checks inv t (ltb-true t (partitions g) l))
-      (give-if (4 ∷ 23 ∷ []) (eqb (inv.table t).live 0) 23 none refl tt) (λ e. rw (result-drop a t) tt))
+      (give-if (4 ∷ 23 ∷ []) (eqb (inv.table t).live 0) 23 None refl tt) (λ e. rw (result-drop a t) tt))
       (λ l. rw (reply-refused a (drop t) (unread 4) (drop-out inv t (ltb-false t (partitions g) l))) (refl, refl))

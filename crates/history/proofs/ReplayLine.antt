@@ -2,7 +2,7 @@
 use Prim.Native.Nat.{ℕ, suc, ◌^◌, ◌≤◌, ◌<◌}
 use mathlib.Core.Bool.{Bool, true, false, cond, and-false}
 use mathlib.Core.Path.{◌≡◌, refl, sym, ◌∙◌, ap}
-use mathlib.Core.Option.{Option, none, some}
+use Rattle.std.specs.Prelude.{Option, None, Some}
 use native.Mathlib.Omega.{arith}
 use native.Mathlib.Decide.{ℕ_discrete}
 use lib.Dec.{eqb}
@@ -32,7 +32,7 @@ use Rattle.history.proofs.ReplayState.{PartAt, part-stored, part-flushed, due-ea
 
 module _ (t : ℕ) (values : ℕ → Option ℕ) (i q n : ℕ) (b : Areas) (h : History) (at : At h.geometry t values i q n b h)
     (sources : i ≤ h.geometry.kept) (room : n < capacity h.geometry)
-    (k v : ℕ) (hk : k < 2 ^ 64) (position : IsPosition v) (own : partition_of h.geometry k ≡ t) (page : page_of h.geometry k ≡ q) (value : values k ≡ some v) where
+    (k v : ℕ) (hk : k < 2 ^ 64) (position : IsPosition v) (own : partition_of h.geometry k ≡ t) (page : page_of h.geometry k ≡ q) (value : values k ≡ Some v) where
   abbrev g : Geometry
   g = h.geometry
 
@@ -47,7 +47,7 @@ module _ (t : ℕ) (values : ℕ → Option ℕ) (i q n : ℕ) (b : Areas) (h : 
       let same : s.flushes ≡ last_flush = rw own at e in
       omega (arith, at.part.few, (sizes g inv.shows.ok).kept-max)
 
-  passed : checks b (put k v) ≡ none
+  passed : checks b (put k v) ≡ None
   passed =
       put-checks inv k hk v
       ∙ rw (a-position v position.0, ne_eqb (inv.table (partition_of g k)).flushes last_flush early, and-false (due g k (inv.table (partition_of g k))))

@@ -3,7 +3,7 @@ use Prim.Native.Nat.{ℕ, suc, ◌≤◌, ◌<◌}
 use mathlib.Core.Bool.{Bool, true, false, cond}
 use mathlib.Core.Path.{◌≡◌, refl, sym}
 use mathlib.Core.List.{List, []}
-use mathlib.Core.Option.{Option, none, some}
+use Rattle.std.specs.Prelude.{Option, None, Some}
 use native.Mathlib.Omega.{arith}
 use native.Mathlib.Decide.{ℕ_discrete}
 use lib.ListN.{length}
@@ -55,21 +55,21 @@ module _ (g : Geometry) (k v : ℕ) (s : Part) {i q n : ℕ} (page : page_of g k
 
 -- ---- a key: what is known of it is the old table's value, and it is no older than the table
 abbrev pub KeyAt : ℕ → Option ℕ → Option Known → Type 0
-KeyAt F value none = Unit {0}
-KeyAt F value (some w) = (w.age ≤ F) × (value ≡ some w.value)
+KeyAt F value None = Unit {0}
+KeyAt F value (Some w) = (w.age ≤ F) × (value ≡ Some w.value)
 
 -- and is known still
 abbrev pub KeyNext : ℕ → Option ℕ → Option Known → Option Known → Type 0
 KeyNext F value o o' = KeyAt F value o' × (is_some o ≡ true → is_some o' ≡ true)
 
 pub next-same : (F F' : ℕ) (value : Option ℕ) (o : Option Known) → F ≤ F' → KeyAt F value o → KeyNext F' value o o
-next-same F F' value none l at = (tt, λ e. e)
-next-same F F' value (some w) l at = ((omega (arith, at.0), at.1), λ e. e)
+next-same F F' value None l at = (tt, λ e. e)
+next-same F F' value (Some w) l at = ((omega (arith, at.0), at.1), λ e. e)
 
 pub next-older : (kept F : ℕ) (value : Option ℕ) (o : Option Known) → F < kept → KeyAt F value o → KeyNext (suc F) value o (older kept o)
 unfolding older
-next-older kept F value none l at = (tt, λ e. e)
-next-older kept F value (some w) l at = rw (older-kept kept w.value w.age (omega (arith, at.0))) ((omega (arith, at.0), at.1), λ e. refl)
+next-older kept F value None l at = (tt, λ e. e)
+next-older kept F value (Some w) l at = rw (older-kept kept w.value w.age (omega (arith, at.0))) ((omega (arith, at.0), at.1), λ e. refl)
 
 pub next-cond : (F : ℕ) (value : Option ℕ) (o : Option Known) (b : Bool) (x y : Option Known) → KeyNext F value o x → KeyNext F value o y → KeyNext F value o (cond b x y)
 next-cond F value o true x y p q = p

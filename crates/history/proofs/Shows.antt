@@ -4,7 +4,7 @@ use Prim.Native.Nat.{ℕ, ◌<◌}
 use mathlib.Core.Bool.{Bool, true}
 use mathlib.Core.Path.{◌≡◌, refl, sym, ◌∙◌, ap, ap₂}
 use mathlib.Core.List.{List}
-use mathlib.Core.Option.{Option, none, some}
+use Rattle.std.specs.Prelude.{Option, None, Some}
 use lib.ListN.{length}
 use Rattle.model.specs.declared.Geometry.{Geometry}
 use Rattle.model.specs.Bytes.{word}
@@ -81,5 +81,5 @@ module _ {g : Geometry} {t : ℕ} {p f : List ℕ} {s : Part} (shows : ShowsPart
   list-has k = rw (list-find k) (same (listed_at (listed_of p) k (list_of g p)))
     where
       same : (o : Option ℕ) → is_some o ≡ is_some (held_at 4 (list_of g p) o)
-      same none = refl
-      same (some i) = refl
+      same None = refl
+      same (Some i) = refl

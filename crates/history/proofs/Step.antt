@@ -1,7 +1,7 @@
 -- Every call keeps areas and history in step.
 use Prim.Native.Nat.{ℕ}
 use mathlib.Core.Path.{◌≡◌, refl}
-use mathlib.Core.Option.{none}
+use Rattle.std.specs.Prelude.{None}
 use Rattle.model.specs.Answers.{Areas, done}
 use Rattle.model.specs.Calls.{Call, format, put, get, del, flush, view, count, text, drop, checks, result, reply, effect, after}
 use Rattle.model.proofs.Calls.{result-del, result-format, result-flush, result-drop, effect-get, effect-view, effect-count, effect-text}
@@ -15,7 +15,7 @@ module _ (a : Areas) (h : History) (inv : InStep a h) where
   abbrev Next : Areas → Event → Type 0
   Next a' e = InStep a' (note h e)
 
-  unless-refused : (c : Call) (n : ℕ) → result a c ≡ done n → (checks a c ≡ none → Next (effect a c) (accepted c n)) → Next (after a c) (heard c (reply a c))
+  unless-refused : (c : Call) (n : ℕ) → result a c ≡ done n → (checks a c ≡ None → Next (effect a c) (accepted c n)) → Next (after a c) (heard c (reply a c))
   unfolding note
   unless-refused c n ends kept = call-leaves a c Next n ends inv kept
 

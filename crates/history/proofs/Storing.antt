@@ -3,7 +3,7 @@ use Prim.Native.Nat.{ℕ, suc, ◌^◌, ◌≤◌, ◌<◌}
 use mathlib.Core.Bool.{true, false}
 use mathlib.Core.Path.{◌≡◌, refl, ◌∙◌, ap}
 use mathlib.Core.List.{List, [], ◌∷◌, ◌++◌}
-use mathlib.Core.Option.{Option, none, some}
+use Rattle.std.specs.Prelude.{Option, None, Some}
 use native.Mathlib.Omega.{arith}
 use native.Mathlib.Decide.{ℕ_discrete}
 use lib.ListN.{length}
@@ -55,14 +55,14 @@ module _ (g : Geometry) (ok : allowed g ≡ true) (t : ℕ) (p f : List ℕ) (s 
     shows-unlisted k = go (listed_at (listed_of p) k (list_of g p)) refl
       where
         go : (o : Option ℕ) → listed_at (listed_of p) k (list_of g p) ≡ o → ShowsPart g t (unlisted g k p) f (remade s (erase k s.list) s.buffer)
-        go none e = rw (not_listed g k p e, erase-none k s.list (list-find shows k ∙ ap (held_at 4 (list_of g p)) e)) shows
-        go (some i) e = shows-list _ (unlisted_head 1 (head_of p)) (struck i (listed_of p) (list_of g p)) _ (laid-unlisted g ok p shows.long shows.words k i e)
+        go None e = rw (not_listed g k p e, erase-none k s.list (list-find shows k ∙ ap (held_at 4 (list_of g p)) e)) shows
+        go (Some i) e = shows-list _ (unlisted_head 1 (head_of p)) (struck i (listed_of p) (list_of g p)) _ (laid-unlisted g ok p shows.long shows.words k i e)
             (words-unlisted 1 (head_of p) shows.words) refl refl
             (entries-struck (listed_of p) (list_of g p) (omega (arith, fits, list_count shows, list-long g ok p shows.long)) k i e ∙ ap (erase k) shows.list)
 
   -- the list with the key at its end
   shows-listed : (k n : ℕ) → k < 2 ^ 64 → n < 2 ^ 32 → length s.list < g.list
-      → ShowsPart g t (listed_with (some n) g k p) f (remade s (s.list ++ (record { key = k; val = n } ∷ [])) s.buffer)
+      → ShowsPart g t (listed_with (Some n) g k p) f (remade s (s.list ++ (record { key = k; val = n } ∷ [])) s.buffer)
   shows-listed k n hk hn room =
       let free : listed_of p < g.list = omega (arith, list_count shows) in
       shows-list _ (listed_head (head_of p)) (enlisted (listed_of p) k n (list_of g p)) _ (laid-listed g ok p shows.long shows.words free k n)
@@ -106,4 +106,4 @@ module _ (g : Geometry) (ok : allowed g ≡ true) (t : ℕ) (p f : List ℕ) (s 
   unfolding deleted_part must_list
   shows-deleted new room =
       rw (passing-shown g ok t p f s shows k part.live_flushed)
-      (simp new (shows-del (passing_of g k s) (λ some. room (simp (new, some))) (passing-live g k s part.live_flushed)))
+      (simp new (shows-del (passing_of g k s) (λ Some. room (simp (new, Some))) (passing-live g k s part.live_flushed)))

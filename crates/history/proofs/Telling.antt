@@ -3,7 +3,7 @@ use Prim.Native.Nat.{ℕ, ◌+◌, ◌≤◌, ◌<◌}
 use mathlib.Core.Bool.{true, false, cond}
 use mathlib.Core.Path.{◌≡◌, refl, sym, ◌∙◌, ap}
 use mathlib.Core.List.{List, [], ◌∷◌}
-use mathlib.Core.Option.{none}
+use Rattle.std.specs.Prelude.{None}
 use native.Mathlib.Omega.{arith}
 use lib.Dec.{eqb}
 use borrow.Author.Tests.{eqb-true, eq-eqb}
@@ -117,7 +117,7 @@ module _ (g : Geometry) (t : ℕ) (p f : List ℕ) where
       elsewhere other = no_line (λ s q i e key. other (ap (partition_of g) (sym key) ∙ (answers_with_lem g t p f flushed (source (head_of p) s) q i e).partition))
 
 -- ---- on areas of bytes on which a text is accepted
-module _ (a : Areas) (memory : AreBytes a.memory) (flash : AreBytes a.flash) (t room : ℕ) (passed : checks a (text t room) ≡ none) where
+module _ (a : Areas) (memory : AreBytes a.memory) (flash : AreBytes a.flash) (t room : ℕ) (passed : checks a (text t room) ≡ None) where
   abbrev g : Geometry
   g = geometry_in a
 

@@ -3,7 +3,7 @@ use Prim.Native.Nat.{ℕ, ◌+◌, ◌-◌, ◌*◌, ◌/◌, ◌%◌, ◌^◌, 
 use mathlib.Core.Bool.{true}
 use mathlib.Core.Path.{◌≡◌, sym, ◌∙◌, ap}
 use mathlib.Core.List.{List}
-use mathlib.Core.Option.{Option, none, some}
+use Rattle.std.specs.Prelude.{Option, None, Some}
 use native.Mathlib.Nat.{mod-lt}
 use native.Mathlib.Omega.{arith}
 use lib.Arith.{digits_lt}
@@ -42,9 +42,9 @@ key_fits g ok k below =
     let all : k < 2 ^ (g.parts + rest) = omega (arith, pow-add 2 g.parts rest, split k rest) in
     rw whole at all
 
-position-of : (o : Option Known) (v : ℕ) → Position o → value_of o ≡ some v → IsPosition v
-position-of none v p e = let z : ◌≡◌ {A = ℕ} 0 1 = cc in absurd (omega arith)
-position-of (some w) v p e = let same : w.value ≡ v = cc in rw (← same) p
+position-of : (o : Option Known) (v : ℕ) → Position o → value_of o ≡ Some v → IsPosition v
+position-of None v p e = let z : ◌≡◌ {A = ℕ} 0 1 = cc in absurd (omega arith)
+position-of (Some w) v p e = let same : w.value ≡ v = cc in rw (← same) p
 
 -- what a line says
 pub record Line (g : Geometry) (t q : ℕ) (values : ℕ → Option ℕ) (k v : ℕ) : Type 0 where
@@ -52,7 +52,7 @@ pub record Line (g : Geometry) (t q : ℕ) (values : ℕ → Option ℕ) (k v : 
   pub partition : partition_of g k ≡ t
   pub page : page_of g k ≡ q
   pub position : IsPosition v
-  pub value : values k ≡ some v
+  pub value : values k ≡ Some v
 
 module _ (a : Areas) (h : History) (inv : InStep a h) (t : ℕ) (inside : t < partitions h.geometry) where
   abbrev g : Geometry
@@ -62,7 +62,7 @@ module _ (a : Areas) (h : History) (inv : InStep a h) (t : ℕ) (inside : t < pa
   p = partition g t a.memory
 
   -- a get of a key of the partition says what the history says
-  pub sought-says : (k : ℕ) → k < 2 ^ 64 → partition_of g k ≡ t → said (sought g k p a.flash) ≡ some (value_of (h.keys k))
+  pub sought-says : (k : ℕ) → k < 2 ^ 64 → partition_of g k ≡ t → said (sought g k p a.flash) ≡ Some (value_of (h.keys k))
   sought-says k hk own =
       rw (← own) (ap said (sym (reply-accepted a (get k) (get-checks inv k hk)
       ∙ result-get a g inv.shows.geometry k)) ∙ says a h inv k hk)
@@ -74,8 +74,8 @@ module _ (a : Areas) (h : History) (inv : InStep a h) (t : ℕ) (inside : t < pa
       let k : ℕ = key_at (source_page g t p a.flash at q) i in
       let v : ℕ = value_at (source_page g t p a.flash at q) i in
       let below : k < 2 ^ 64 = key_fits g inv.shows.ok k (rw answered.partition inside) in
-      let both : some (some v) ≡ some (value_of (h.keys k)) = sym (ap said answered.says) ∙ sought-says k below answered.partition in
-      let value : value_of (h.keys k) ≡ some v = cc in
+      let both : Some (Some v) ≡ Some (value_of (h.keys k)) = sym (ap said answered.says) ∙ sought-says k below answered.partition in
+      let value : value_of (h.keys k) ≡ Some v = cc in
       record { below = below; partition = answered.partition; page = answered.page; position = position-of (h.keys k) v (positions k) value; value = value }
 
   pub few-lines : (i q : ℕ) → q < g.pages → count_of (source_page g t p a.flash (source (head_of p) i) q) ≤ capacity g

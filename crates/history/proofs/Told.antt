@@ -3,7 +3,7 @@
 use Prim.Native.Nat.{ℕ, zero, suc, ◌+◌, ◌-◌, ◌≤◌, ◌<◌}
 use mathlib.Core.Bool.{true, false≢true}
 use mathlib.Core.Path.{◌≡◌, refl, sym, ◌∙◌, subst₂, fun_ext}
-use mathlib.Core.Option.{Option, none, some}
+use Rattle.std.specs.Prelude.{Option, None, Some}
 use native.Mathlib.Numerals.{add-one}
 use native.Mathlib.Omega.{arith}
 use native.Mathlib.Decide.{dec_le}
@@ -18,10 +18,10 @@ use Rattle.history.proofs.Table.{expires, live_after}
 -- A listed key is in no place younger than the batch of its stamp. A key that the history knows is in the place of its age, and in no
 -- younger one. Any other key is in no live place. The places are those up to the age of the live number.
 pub data Told (live F : ℕ) : Option ℕ → (ℕ → Option ℕ) → Option Known → Type 0 where
-  listed : {s : ℕ} {f : ℕ → Option ℕ} → ((b : ℕ) → b + s ≤ F → f b ≡ none) → Told live F (some s) f none
-  absent : {f : ℕ → Option ℕ} → ((b : ℕ) → b ≤ live → f b ≡ none) → Told live F none f none
-  present : {f : ℕ → Option ℕ} {v a : ℕ} → f a ≡ some v → a ≤ live → ((b : ℕ) → b < a → f b ≡ none)
-      → Told live F none f (some (record { value = v; age = a }))
+  listed : {s : ℕ} {f : ℕ → Option ℕ} → ((b : ℕ) → b + s ≤ F → f b ≡ None) → Told live F (Some s) f None
+  absent : {f : ℕ → Option ℕ} → ((b : ℕ) → b ≤ live → f b ≡ None) → Told live F None f None
+  present : {f : ℕ → Option ℕ} {v a : ℕ} → f a ≡ Some v → a ≤ live → ((b : ℕ) → b < a → f b ≡ None)
+      → Told live F None f (Some (record { value = v; age = a }))
 
 pub told_same : {live F : ℕ} {m m' : Option ℕ} {f f' : ℕ → Option ℕ} {w : Option Known}
     → m' ≡ m → ((a : ℕ) → f' a ≡ f a) → Told live F m f w → Told live F m' f' w
@@ -29,23 +29,23 @@ told_same {live} {F} {w} p q r = subst₂ (λ m f. Told live F m f w) (sym p) (f
 
 -- a listed key is not known
 pub told-forget : {live F : ℕ} {m : Option ℕ} {f : ℕ → Option ℕ} {w : Option Known}
-    → Told live F m f w → is_some m ≡ true → Told live F m f none
+    → Told live F m f w → is_some m ≡ true → Told live F m f None
 told-forget (listed silent) h = listed silent
 told-forget (absent silent) h = absent silent
 told-forget (present here fits silent) h = absurd (false≢true h)
 
 -- a key is known up to age K, and not above
-pub older-kept : (kept v a : ℕ) → a + 1 ≤ kept → older kept (some (record { value = v; age = a })) ≡ some (record { value = v; age = a + 1 })
+pub older-kept : (kept v a : ℕ) → a + 1 ≤ kept → older kept (Some (record { value = v; age = a })) ≡ Some (record { value = v; age = a + 1 })
 unfolding older
 older-kept kept v a young = rw (le-ltb, young)
 
-older-gone : (kept v a : ℕ) → kept < a + 1 → older kept (some (record { value = v; age = a })) ≡ none
+older-gone : (kept v a : ℕ) → kept < a + 1 → older kept (Some (record { value = v; age = a })) ≡ None
 unfolding older
 older-gone kept v a old = rw (lt-ltb, old)
 
 -- a flush: every place is one older, the buffer is empty, and the live number rises by 1, up to K
-module _ (f f' : ℕ → Option ℕ) (start : f' 0 ≡ none) (shift : (a : ℕ) → f' (suc a) ≡ f a) where
-  later : (b : ℕ) → ((c : ℕ) → b ≡ suc c → f c ≡ none) → f' b ≡ none
+module _ (f f' : ℕ → Option ℕ) (start : f' 0 ≡ None) (shift : (a : ℕ) → f' (suc a) ≡ f a) where
+  later : (b : ℕ) → ((c : ℕ) → b ≡ suc c → f c ≡ None) → f' b ≡ None
   later zero h = start
   later (suc c) h = shift c ∙ h c refl
 

@@ -3,7 +3,7 @@ use Prim.Native.Nat.{ℕ, suc, ◌+◌, ◌-◌, ◌^◌, ◌≤◌, ◌<◌}
 use mathlib.Core.Bool.{Bool, true, false, not}
 use mathlib.Core.Path.{◌≡◌, refl, sym, ◌∙◌, ap, ap₂}
 use mathlib.Core.List.{List, [], ◌∷◌}
-use mathlib.Core.Option.{none}
+use Rattle.std.specs.Prelude.{None}
 use native.Mathlib.Omega.{arith}
 use native.Mathlib.Nat.{zero-add}
 use lib.Dec.{eqb, leb}
@@ -35,7 +35,7 @@ use Rattle.history.proofs.Pages.{page-has, page-count, page-expected}
 use Rattle.history.proofs.Shows.{ShowsPart, shows-laid, list-has}
 
 -- no number passes the test
-first-fails : (n : ℕ) (test : ℕ → Bool) → ((q : ℕ) → q < n → test q ≡ false) → first_from n 0 test ≡ none
+first-fails : (n : ℕ) (test : ℕ → Bool) → ((q : ℕ) → q < n → test q ≡ false) → first_from n 0 test ≡ None
 first-fails n test h = first-behind test n 0 n (λ j l. rw zero-add (h j l)) (omega arith) ∙ rw zero-add (first-end test n n (omega arith))
 
 module _ (g : Geometry) (ok : allowed g ≡ true) (t : ℕ) (p f : List ℕ) (s : Part) (shows : ShowsPart g t p f s) where
@@ -100,7 +100,7 @@ module _ (g : Geometry) (ok : allowed g ≡ true) (t : ℕ) (p f : List ℕ) (s 
           by-age : (q : ℕ) → pages_at s s.live q ≡ s.batch (s.flushes - s.live + 1) q
           by-age q = let e : s.flushes + 1 - s.live ≡ s.flushes - s.live + 1 = omega (arith, part.live_flushed) in batch-of-age g s s.live q any ∙ ap (λ (n : ℕ). s.batch n q) e
 
-      pub oldest-sound : failed_page g t f (oldest (head_of p)) ≡ none
+      pub oldest-sound : failed_page g t f (oldest (head_of p)) ≡ None
       oldest-sound = first-fails g.pages _ (λ q l. let page = shows.batch _ oldest-live q l in rw (page-expected page.page _ page.flush))
 
     -- the batch that a flush pushes out
@@ -121,7 +121,7 @@ module _ (g : Geometry) (ok : allowed g ≡ true) (t : ℕ) (p f : List ℕ) (s 
     batches-shown = ap is_some (first-fails (live_of p) _ (λ i l. ap is_some (first-fails g.pages _ (λ q lq.
         let page = shows.batch _ (source-live i l) q lq in rw (page-expected page.page _ page.flush)))))
 
-    pub heads-shown : failed_head g t p f ≡ none
+    pub heads-shown : failed_head g t p f ≡ None
     unfolding failed_head
     heads-shown = rw pushes-shown (either (leb g.kept s.live) (λ full. rw full (oldest-sound (some-live full))) (λ few. rw few))
 

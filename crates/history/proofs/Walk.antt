@@ -3,7 +3,7 @@ use Prim.Native.Nat.{ℕ, zero, suc, ◌+◌, ◌-◌, ◌≤◌, ◌<◌}
 use mathlib.Core.Bool.{cond}
 use mathlib.Core.Path.{◌≡◌, refl}
 use mathlib.Core.List.{List, [], ◌∷◌}
-use mathlib.Core.Option.{Option, none, some}
+use Rattle.std.specs.Prelude.{Option, None, Some}
 use native.Mathlib.Omega.{arith}
 use native.Mathlib.Decide.{ℕ_discrete}
 use lib.ListN.{length}
@@ -22,8 +22,8 @@ abbrev pub look_in : Geometry → ℕ → Part → ℕ → Option ℕ
 look_in g k p n = find k (p.batch n (page_of g k))
 
 abbrev pub answer_at : Option ℕ → ℕ → Bare → Bare
-answer_at (some v) n later = value v (batch n)
-answer_at none n later = later
+answer_at (Some v) n later = value v (batch n)
+answer_at None n later = later
 
 -- the walk's answer, and the batches that it reads
 unfoldable pub walk : (ℕ → Option ℕ) → List ℕ → Bare
@@ -77,7 +77,7 @@ module _ (g : Geometry) (k : ℕ) (p : Part) where
 
   module _ (inside : page_of g k < g.pages) where
     -- a batch that is younger than all that pass does not hold the key
-    pub skipped : (count n m : ℕ) → m ≤ n → n < m + count → Above m (passing_from g k p count n) → look_in g k p m ≡ none
+    pub skipped : (count n m : ℕ) → m ≤ n → n < m + count → Above m (passing_from g k p count n) → look_in g k p m ≡ None
     unfolding passing_from
     skipped zero n m l h above = absurd (omega arith)
     skipped (suc count) n m l h above = either (passes_in g (p.batch n) k)
@@ -88,13 +88,13 @@ module _ (g : Geometry) (k : ℕ) (p : Part) where
         ])
 
     -- a walk finds the youngest, and says where
-    pub walk-finds : (count n m v : ℕ) → m ≤ n → n < m + count → look_in g k p m ≡ some v
-        → ((b : ℕ) → m < b → b ≤ n → look_in g k p b ≡ none) → walk (look_in g k p) (passing_from g k p count n) ≡ value v (batch m)
+    pub walk-finds : (count n m v : ℕ) → m ≤ n → n < m + count → look_in g k p m ≡ Some v
+        → ((b : ℕ) → m < b → b ≤ n → look_in g k p b ≡ None) → walk (look_in g k p) (passing_from g k p count n) ≡ value v (batch m)
     unfolding walk passing_from
     walk-finds zero n m v l h here silent = absurd (omega arith)
     walk-finds (suc count) n m v l h here silent = elim (ℕ_discrete m n) [
       | yes e ↦
-          (let here' : find k (p.batch n (page_of g k)) ≡ some v = rw e at here in
+          (let here' : find k (p.batch n (page_of g k)) ≡ Some v = rw e at here in
           rw e (simp (passes-found g k (p.batch n) (page_of g k) inside v here', here')))
       | no e ↦ either (passes_in g (p.batch n) k)
           (λ w. simp (w, silent n (omega arith) (omega arith))
@@ -103,7 +103,7 @@ module _ (g : Geometry) (k : ℕ) (p : Part) where
           (walk-finds count (n - 1) m v (omega arith) (omega arith) here (λ b x y. silent b x (omega arith))))
     ]
 
-    pub walk-misses : (count n : ℕ) → count ≤ n → ((b : ℕ) → n < b + count → b ≤ n → look_in g k p b ≡ none)
+    pub walk-misses : (count n : ℕ) → count ≤ n → ((b : ℕ) → n < b + count → b ≤ n → look_in g k p b ≡ None)
         → walk (look_in g k p) (passing_from g k p count n) ≡ nothing
     unfolding walk passing_from
     walk-misses zero n f silent = refl

@@ -1,6 +1,5 @@
 -- Demand 3: one claim about the whole list of calls, whatever its length and order; and beside it what document 02 promises from a format on.
-use Rattle.std.specs.Prelude.{ℕ, suc, ◌+◌, ◌-◌, ◌*◌, ◌^◌, ◌≤◌, ◌<◌, Bool, true, false, ◌≡◌, List, [], ◌∷◌, length}
-use Rattle.std.proofs.Math.Option.{Option, none, some}
+use Rattle.std.specs.Prelude.{ℕ, suc, ◌+◌, ◌-◌, ◌*◌, ◌^◌, ◌≤◌, ◌<◌, Bool, true, false, ◌≡◌, List, [], ◌∷◌, length, Option, None, Some}
 use Rattle.model.specs.declared.Geometry.{Geometry}
 use Rattle.model.specs.Geometry.{partitions, capacity}
 use Rattle.model.specs.Keys.{partition_of}
@@ -37,11 +36,11 @@ is_refused (refused n r) = true
 
 -- what a get says of its key: a value or none, and nothing when it is refused
 abbrev pub said : Answer → Option (Option ℕ)
-said (done n) = none
-said (found v c p) = some (some v)
-said (absent c) = some none
-said (shown s) = none
-said (refused n r) = none
+said (done n) = None
+said (found v c p) = Some (Some v)
+said (absent c) = Some None
+said (shown s) = None
+said (refused n r) = None
 
 abbrev pub reads_of : Answer → ℕ
 reads_of (done n) = 0
@@ -58,8 +57,8 @@ comparisons_of (shown s) = 0
 comparisons_of (refused n r) = 0
 
 abbrev pub value_of : Option Known → Option ℕ
-value_of none = none
-value_of (some w) = some w.value
+value_of None = None
+value_of (Some w) = Some w.value
 
 -- What a get that is accepted has cost (02, job 8): the reads of the pages that it reads, and the comparisons of its buffer page and of these pages. So at most E for the buffer page, and E for each page read.
 pub record Cost (a : Areas) (k : ℕ) : Type 0 where
@@ -75,8 +74,8 @@ GetsCost = (a : Areas) (k : ℕ) → is_refused (reply a (get k)) ≡ false → 
 -- Document 02: "From a format on ... lookups then never show 0."
 -- Its reads are at most the live number of the key's partition, and at most one page of each live batch; its answer follows from the batches read, and a value from the buffer is what the key's buffer page holds.
 pub record Right (a : Areas) (h : History) (k : ℕ) : Type 0 where
-  pub says : said (reply a (get k)) ≡ some (value_of (h.keys k))
-  pub nonzero : said (reply a (get k)) ≡ some (some 0) → ⊥
+  pub says : said (reply a (get k)) ≡ Some (value_of (h.keys k))
+  pub nonzero : said (reply a (get k)) ≡ Some (Some 0) → ⊥
   pub reads : reads_of (reply a (get k)) ≤ h.live (partition_of h.geometry k)
   pub cost : Cost a k
   pub follows : Follows a k (reply a (get k)) (read_by a k)

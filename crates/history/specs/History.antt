@@ -1,6 +1,5 @@
 -- "The history rule": what is known of a table from the calls' arguments, from which of them were refused, and from the pages that puts wrote.
-use Rattle.std.specs.Prelude.{ℕ, ◌+◌, ◌-◌, min, cond, List, [], ◌∷◌, eqb, ltb}
-use Rattle.std.proofs.Math.Option.{Option, none, some}
+use Rattle.std.specs.Prelude.{ℕ, ◌+◌, ◌-◌, min, cond, List, [], ◌∷◌, eqb, ltb, Option, None, Some}
 use Rattle.model.specs.declared.Geometry.{Geometry}
 use Rattle.model.specs.Keys.{partition_of}
 use Rattle.model.specs.Answers.{Areas, Answer, done, found, absent, shown, refused}
@@ -22,12 +21,12 @@ pub record History : Type 0 where
 
 -- Accepted format: no keys, all numbers 0; its s, Q, E and K hold from here.
 abbrev pub blank : Geometry → History
-blank g = record { geometry = g; keys = λ k. none; live = λ t. 0; puts = 0; put_pages = 0 }
+blank g = record { geometry = g; keys = λ k. None; live = λ t. 0; puts = 0; put_pages = 0 }
 
 -- a key that ages by 1, and is forgotten above age K
 unfoldable pub older : ℕ → Option Known → Option Known
-older kept none = none
-older kept (some w) = cond (ltb kept (w.age + 1)) none (some (record { value = w.value; age = w.age + 1 }))
+older kept None = None
+older kept (Some w) = cond (ltb kept (w.age + 1)) None (Some (record { value = w.value; age = w.age + 1 }))
 
 -- A flush of a partition: each of its keys ages by 1, and those above age K are forgotten; its live number rises by 1, up to K.
 abbrev pub aged : ℕ → History → History
@@ -41,8 +40,8 @@ aged t h = record {
 
 -- a key, unless it is of this age
 unfoldable pub unless_aged : ℕ → Option Known → Option Known
-unless_aged age none = none
-unless_aged age (some w) = cond (eqb w.age age) none (some w)
+unless_aged age None = None
+unless_aged age (Some w) = cond (eqb w.age age) None (Some w)
 
 -- Document 02: "an accepted drop forgets the partition's keys whose age is the live number, then lowers that number by 1."
 abbrev pub lowered : ℕ → History → History
@@ -104,8 +103,8 @@ heard c (refused n r) = turned_down
 unfoldable pub note : History → Event → History
 note h (formatted g) = blank g
 note h (putting k v n) =
-    counted n (with_key k (some (record { value = v; age = 0 })) (cond (eqb n 0) h (aged (partition_of h.geometry k) h)))
-note h (deleting k) = with_key k none h
+    counted n (with_key k (Some (record { value = v; age = 0 })) (cond (eqb n 0) h (aged (partition_of h.geometry k) h)))
+note h (deleting k) = with_key k None h
 note h (flushing t) = aged t h
 note h (dropping t) = lowered t h
 note h looking = h

@@ -1,7 +1,6 @@
 -- A partition moved by its text, beside demand 3.
 -- Document 02: "From a table that calls have made since a format, the text, read by the session program's rules into a fresh table of the same geometry, gives every key of that partition the same value or none as before."
-use Rattle.std.specs.Prelude.{ℕ, ◌*◌, ◌^◌, ◌≤◌, ◌<◌, false, ◌≡◌, List, [], ◌∷◌, length}
-use Rattle.std.proofs.Math.Option.{Option, none, some}
+use Rattle.std.specs.Prelude.{ℕ, ◌*◌, ◌^◌, ◌≤◌, ◌<◌, false, ◌≡◌, List, [], ◌∷◌, length, Option, None, Some}
 use Rattle.model.specs.Geometry.{partitions}
 use Rattle.model.specs.Keys.{partition_of}
 use Rattle.model.specs.Answers.{Areas, done}
@@ -12,8 +11,8 @@ use Rattle.history.specs.Claim.{is_refused, said, FromFormat, entries_held}
 
 -- a line that is not `(bad)`, and whose call is not refused
 abbrev pub Taken : Option Call → Areas → Type 0
-Taken none a = ⊥
-Taken (some c) a = is_refused (reply a c) ≡ false
+Taken None a = ⊥
+Taken (Some c) a = is_refused (reply a c) ≡ false
 
 -- each line of these, read one after the other
 abbrev pub AllTaken : List (List ℕ) → Areas → Type 0

@@ -1,6 +1,5 @@
 -- Which batches a get reads, in order, what it compares in their pages, and how its answer follows from them, or from the buffer.
-use Rattle.std.specs.Prelude.{ℕ, ◌+◌, ◌<◌, Bool, true, cond, not, ◌&&◌, ◌≡◌, List, [], ◌∷◌, ◌++◌}
-use Rattle.std.proofs.Math.Option.{Option, none, some, map}
+use Rattle.std.specs.Prelude.{option_map, ℕ, ◌+◌, ◌<◌, Bool, true, cond, not, ◌&&◌, ◌≡◌, List, [], ◌∷◌, ◌++◌, Option, None, Some}
 use Rattle.model.specs.declared.Geometry.{Geometry}
 use Rattle.model.specs.Search.{is_some}
 use Rattle.model.specs.Keys.{partition_of, page_of}
@@ -55,7 +54,7 @@ is_passed a k n = batch_passes (geometry_in a) k (key_partition a k) n
 
 -- what a page holds of the key
 abbrev pub held_on : List ℕ → ℕ → Option ℕ
-held_on page k = map (value_at page) (searched k page)
+held_on page k = option_map (value_at page) (searched k page)
 
 -- the key's page of batch n
 abbrev pub held_in : Areas → ℕ → ℕ → Option ℕ
@@ -68,7 +67,7 @@ held_in_buffer a k = held_on (buffer_of (geometry_in a) (key_partition a k) (pag
 -- of each of these batches the filter passes the key, and the page lacks it
 abbrev pub AllLack : Areas → ℕ → List ℕ → Type 0
 AllLack a k [] = Unit {0}
-AllLack a k (n ∷ ns) = (is_passed a k n ≡ true) × (held_in a k n ≡ none) × AllLack a k ns
+AllLack a k (n ∷ ns) = (is_passed a k n ≡ true) × (held_in a k n ≡ None) × AllLack a k ns
 
 -- the value v is batch n's: n was read last, and before it only batches that lack the key
 pub record FoundIn (a : Areas) (k v n : ℕ) (read : List ℕ) : Type 0 where
@@ -76,12 +75,12 @@ pub record FoundIn (a : Areas) (k v n : ℕ) (read : List ℕ) : Type 0 where
   pub last : read ≡ before ++ n ∷ []
   pub lacking : AllLack a k before
   pub passed : is_passed a k n ≡ true
-  pub holds : held_in a k n ≡ some v
+  pub holds : held_in a k n ≡ Some v
 
 -- how a get's answer follows from the batches that it read, and from the buffer page
 abbrev pub Follows : Areas → ℕ → Answer → List ℕ → Type 0
 Follows a k (found v c (batch n)) read = FoundIn a k v n read
-Follows a k (found v c buffer) read = (read ≡ []) × (held_in_buffer a k ≡ some v)
+Follows a k (found v c buffer) read = (read ≡ []) × (held_in_buffer a k ≡ Some v)
 Follows a k (absent c) read = AllLack a k read
 Follows a k (done n) read = Unit {0}
 Follows a k (shown s) read = Unit {0}

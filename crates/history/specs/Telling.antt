@@ -1,6 +1,5 @@
 -- What the lines of a partition's text put, on any areas of bytes on which it is accepted, whether calls have made them since a format or not: of each key of the partition what a get finds, once, and nothing else (02, job 5).
-use Rattle.std.specs.Prelude.{ℕ, ◌<◌, false, cond, ◌≡◌, List, [], ◌∷◌, map, eqb, get_or}
-use Rattle.std.proofs.Math.Option.{Option, none, some}
+use Rattle.std.specs.Prelude.{ℕ, ◌<◌, false, cond, ◌≡◌, List, [], ◌∷◌, map, eqb, get_or, Option, None, Some}
 use Rattle.model.specs.Keys.{partition_of}
 use Rattle.model.specs.Answers.{Areas}
 use Rattle.model.specs.Calls.{Call, put, get, text, geometry_in, text_in, reply}
@@ -13,7 +12,7 @@ AreBytes xs = (i : ℕ) → get_or xs i 0 < 256
 
 -- the call that puts a key's value
 abbrev pub put_of : ℕ × ℕ → Option Call
-put_of e = some (put e.0 e.1)
+put_of e = Some (put e.0 e.1)
 
 -- of keys with their values, the values of one key, in their order
 unfoldable pub values_of : ℕ → List (ℕ × ℕ) → List ℕ
@@ -22,9 +21,9 @@ values_of k (e ∷ es) = cond (eqb e.0 k) (e.1 ∷ values_of k es) (values_of k 
 
 -- the value that a get says, if it says one
 abbrev pub value_said : Option (Option ℕ) → List ℕ
-value_said (some (some v)) = v ∷ []
-value_said (some none) = []
-value_said none = []
+value_said (Some (Some v)) = v ∷ []
+value_said (Some None) = []
+value_said None = []
 
 -- Each line of partition t's text is read as a put. A get of any key of the partition is accepted; the key is put once, with the value that the get finds, or where it finds none not at all. No key of another partition is put.
 pub record Tells (a : Areas) (t : ℕ) : Type 0 where

@@ -2,7 +2,7 @@
 use Prim.Native.Nat.{ℕ, ◌+◌, ◌≤◌, ◌<◌}
 use mathlib.Core.List.{List, [], ◌∷◌, ◌++◌}
 use mathlib.Core.Logic.{⊎_elim}
-use mathlib.Core.Option.{none}
+use Rattle.std.specs.Prelude.{None}
 use mathlib.Core.Path.{◌≡◌, refl, sym, ◌∙◌}
 use native.Mathlib.Omega.{arith}
 use lib.ListN.{length, take, drop, length-append, length-take, length-drop}
@@ -37,7 +37,7 @@ lines-on x [] more h = rw (ne_eqb x 10 (h 0 (omega arith) (omega arith))) (start
 lines-on x (y ∷ xs) more h = rw (ne_eqb x 10 (h 0 (omega arith) (omega arith)), lines-on y xs more (unended-rest x (y ∷ xs) h))
 
 -- a line that says no call
-module _ (line : List ℕ) (ls : List (List ℕ)) (a : Areas) (e : call_of line ≡ none) where
+module _ (line : List ℕ) (ls : List (List ℕ)) (a : Areas) (e : call_of line ≡ None) where
   bad-prints : lines_print (line ∷ ls) a ≡ text "(bad)\n" ++ lines_print ls a
   bad-prints = rw (print-line line ls a, prints-bad line a e, leaves-same line a e)
 
@@ -46,7 +46,7 @@ module _ (line : List ℕ) (ls : List (List ℕ)) (a : Areas) (e : call_of line 
 
 -- all that a line too long prints and leaves, whatever follows it
 module _ (more : List ℕ) (a : Areas) where
-  no_call : (xs : List ℕ) → 138 < length xs → call_of (xs ++ first (lines_of more)) ≡ none
+  no_call : (xs : List ℕ) → 138 < length xs → call_of (xs ++ first (lines_of more)) ≡ None
   no_call xs l = long-says-none _ (simp length-append (omega arith))
 
   long-prints : (xs : List ℕ) → Unended 0 xs → 138 < length xs → lines_print (lines_of (xs ++ more)) a ≡ text "(bad)\n" ++ lines_print (others (lines_of more)) a

@@ -13,14 +13,10 @@ pub fn line_end(input: &[u8], from: usize) -> usize
     requires { from ≤ length input.now }
     ensures { LineEnd input.now from result }
 {
-    let mut i = from;
-    while i < input.len() {
-        if input[i] == b'\n' {
-            return i;
-        }
-        i += 1;
+    match input[from..].iter().position(|byte| *byte == b'\n') {
+        Some(n) => from + n,
+        None => input.len(),
     }
-    i
 }
 
 // The unfinished line input[from..] moves to the start; tells its length there. A line longer than any form is cut: it stays bad, whatever follows.
@@ -28,10 +24,10 @@ pub fn keep_rest(input: &mut [u8], from: usize) -> usize
     ensures puts { Puts (take longest (drop from input.old)) 0 input.old result input.new }
     ensures same { Unended from input.old → Same (drop from input.old) (take result input.new) }
 {
-    let mut n = 0;
-    while n < LINE && n < input.len() && from < input.len() - n {
-        input[n] = input[from + n];
-        n += 1;
+    if input.len() <= from {
+        return 0;
     }
+    let n = (input.len() - from).min(LINE);
+    words::move_down(input, 0, from, n);
     n
 }

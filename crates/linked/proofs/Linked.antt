@@ -2,7 +2,7 @@
 use Prim.Native.Nat.{ℕ}
 use mathlib.Core.Bool.{false}
 use mathlib.Core.List.{List, [], ◌∷◌}
-use mathlib.Core.Option.{Option, none, some}
+use Rattle.std.specs.Prelude.{Option, None, Some}
 use mathlib.Core.Path.{◌≡◌, refl, sym, ◌∙◌, ap, ap₂}
 use Rattle.model.specs.declared.Geometry.{Geometry}
 use Rattle.model.specs.Answers.{Areas, Refusal, Answer, done, found, absent, shown, refused, in_memory, in_flash}
@@ -31,8 +31,8 @@ put-heard : (a : Areas) (k v : ℕ) → heard_from (put k v) (exported (reply a 
 put-heard a k v = go (checks a (put k v)) refl
   where
     go : (o : Option Refusal) → checks a (put k v) ≡ o → heard_from (put k v) (exported (reply a (put k v))) ≡ heard (put k v) (reply a (put k v))
-    go (some r) e = rw (reply-refused a (put k v) r e)
-    go none e = rw (reply-accepted a (put k v) e, result-put a _ refl k v _ refl)
+    go (Some r) e = rw (reply-refused a (put k v) r e)
+    go None e = rw (reply-accepted a (put k v) e, result-put a _ refl k v _ refl)
 
 text-heard : (t room : ℕ) (x : Answer) → heard_from (text t room) (exported_text x) ≡ heard (text t room) x
 text-heard t room (done n) = refl

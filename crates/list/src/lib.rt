@@ -8,22 +8,20 @@ ghost use Rattle.model.specs.DeleteList.{listed_at, enlisted, struck, unexpired}
 ghost use Rattle.model.specs.Partition.{head_of, listed_of, list_of};
 ghost use Rattle.model.specs.Refusals.{head_overfull};
 ghost use Rattle.model.specs.Batch.{delisted};
-ghost use Rattle.records.specs.Found.{found_at};
 ghost use Rattle.partition.specs.Ready.{Whole};
 
 use head::Head;
 use model::Geometry;
-use records::Found;
 
 // The first entry of the key. Most lists are empty, and only one that is not is searched.
-pub fn find(part: &[u8], g: Geometry, key: u64) -> Found
+pub fn find(part: &[u8], g: Geometry, key: u64) -> Option<usize>
     requires whole { Whole g part.now }
     requires part_value { head_overfull g (head_of part.now) ≡ false }
-    ensures { found_at result ≡ listed_at (listed_of part.now) key (list_of g part.now) }
+    ensures { result ≡ listed_at (listed_of part.now) key (list_of g part.now) }
 {
     let n = Head::read(part).listed as usize;
     if n == 0 {
-        return Found::Nothing;
+        return None;
     }
     let e = 16 + 16 * g.list as usize;
     deletes::find(&part[16..e], n, key)

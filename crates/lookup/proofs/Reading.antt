@@ -1,25 +1,24 @@
 -- The whole answer of a get from flash is at all times the answer from here on: each batch that is passed over or searched keeps it so.
-use Prim.Native.Nat.{ℕ, ◌+◌, ◌-◌, ◌^◌, ◌≤◌, ◌<◌}
+use Prim.Native.Nat.{ℕ, ◌+◌, ◌-◌, ◌*◌, ◌^◌, ◌≤◌, ◌<◌}
 use mathlib.Core.Bool.{Bool, true, false}
 use mathlib.Core.List.{List}
-use mathlib.Core.Option.{Option, none, some}
-use mathlib.Core.Path.{◌≡◌, refl, sym, ◌∙◌, ap, ap₂}
+use mathlib.Core.Path.{◌≡◌, ◌∙◌, ap₂}
+use native.Mathlib.Nat.{add-sub_cancel_left}
 use native.Mathlib.Omega.{arith}
-use borrow.Author.Tests.{eqb-true}
+use lib.ListN.{length}
+use Rattle.std.specs.Prelude.{Some, None}
 use Rattle.model.specs.declared.Geometry.{Geometry}
 use Rattle.model.specs.Bytes.{mid}
 use Rattle.model.specs.Geometry.{allowed, slot_page_at, flash_need}
 use Rattle.model.specs.Keys.{partition_of, page_of}
-use Rattle.model.specs.Records.{key_at}
-use Rattle.model.specs.Page.{count_of, searched, compared, expected}
+use Rattle.model.specs.Page.{count_of, value_at, searched, compared, expected}
 use Rattle.model.specs.Partition.{flushes_of, live_of, slot, batch_passes, passing, passing_from}
-use Rattle.model.specs.Answers.{Tally, tally, page_read, Answer, absent, refused, batch}
+use Rattle.model.specs.Answers.{Tally, tally, page_read, Answer, found, absent, refused, batch}
 use Rattle.model.specs.Get.{hit_in, read_through}
 use Rattle.model.proofs.Passing.{pass-take, pass-skip, pass-end, passing-from}
-use Rattle.model.proofs.Lookup.{reads-each, read_none, read-batch}
-use Rattle.model.proofs.Searching.{first-at}
+use Rattle.model.proofs.Lookup.{expected-fits, reads-each, read_none, read-batch}
+use Rattle.model.proofs.Parts.{length-mid}
 use Rattle.model.proofs.Sizes.{partition-of-lt, page-of-lt, slot_lt, slot-page-fits, flash-max}
-use Rattle.lookup.specs.Stop.{stop_at}
 
 -- ---- the key's page of batch n, and where it lies
 module _ (g : Geometry) (k n : ℕ) where
@@ -32,62 +31,68 @@ module _ (g : Geometry) (k n : ℕ) where
   abbrev pub Expected : List ℕ → Bool
   Expected f = expected g (partition_of g k) n (page_of g k) (page_in f)
 
-  pub spot-fits : allowed g ≡ true → k < 2 ^ 64 → (spot_of + g.page ≤ flash_need g) × (spot_of + g.page ≤ 2147483648)
-  spot-fits ok l = let h = slot-page-fits g _ _ _ (partition-of-lt g ok k l) (slot_lt g ok n) (page-of-lt g ok k) in (h, omega (arith, h, flash-max g ok))
+  -- it begins at `at`: what is lent from there on is it, and where its head is as expected, its used entries fit it
+  pub record PageAt (f : List ℕ) (at : ℕ) : Type 0 where
+    pub place : at ≡ spot_of
+    pub inside : at + g.page ≤ length f
+    pub small : at + g.page ≤ 2147483648
+    pub own : mid at (at + g.page - at) f ≡ page_in f
+    pub long : length (page_in f) ≡ g.page
+    pub room : Expected f ≡ true → 16 + 16 * count_of (page_in f) ≤ g.page
 
--- ---- where a search stopped: at the entry that it found, or behind the used ones
-module _ (k : ℕ) (page : List ℕ) (i : ℕ) (stopped : i ≡ stop_at (searched k page) (count_of page)) where
-  pub stopped-at : i ≤ count_of page → searched k page ≡ some i
-  stopped-at l = go (searched k page) refl
-    where
-      go : (o : Option ℕ) → searched k page ≡ o → searched k page ≡ some i
-      go (some j) e = let s : i ≡ j = rw e at stopped in e ∙ ap some (sym s)
-      go none e = let s : i ≡ count_of page + 1 = rw e at stopped in absurd (omega arith)
-
-  -- so the entry there has the key
-  pub stopped-key : i ≤ count_of page → key_at page i ≡ k
-  stopped-key l = eqb-true _ _ (first-at _ _ _ _ (stopped-at l)).passed
-
-  pub stopped-behind : count_of page < i → searched k page ≡ none
-  stopped-behind l = go (searched k page) refl
-    where
-      go : (o : Option ℕ) → searched k page ≡ o → searched k page ≡ none
-      go (some j) e = let s : i ≡ j = rw e at stopped in absurd (omega (arith, (first-at _ _ _ _ e).high))
-      go none e = e
+  pub page-at : allowed g ≡ true → k < 2 ^ 64 → (f : List ℕ) → flash_need g ≤ length f → (at : ℕ) → at ≡ spot_of → PageAt f at
+  page-at ok l f long at e =
+      let fits = slot-page-fits g _ _ _ (partition-of-lt g ok k l) (slot_lt g ok n) (page-of-lt g ok k) in
+      record {
+        place = e;
+        inside = omega (arith, e, fits);
+        small = omega (arith, e, fits, flash-max g ok);
+        own = rw (add-sub_cancel_left, e);
+        long = length-mid _ _ f (omega (arith, fits));
+        room = λ x. expected-fits g _ _ _ _ ok x;
+      }
 
 -- ---- the answer after what was already spent
 module _ (g : Geometry) (k : ℕ) (p f : List ℕ) (already : Tally) where
   abbrev pub whole : Answer
   whole = read_through g k f (passing g k p) already
 
-  -- of the batches from n down to the one above `last`, after a cost
-  abbrev pub AtBatch : ℕ → ℕ → Tally → Type 0
-  AtBatch last n cost = whole ≡ read_through g k f (passing_from g k p (n - last) n) cost
+  module _ (live flushes : ℕ) where
+    -- it is what the batches older than the `age` youngest give, after a cost
+    abbrev pub LeftAt : ℕ → Tally → Type 0
+    LeftAt age cost = whole ≡ read_through g k f (passing_from g k p (live - age) (flushes - age)) cost
 
-  -- of the search of this page, of batch n, then of the batches before it
-  abbrev pub AtPage : ℕ → ℕ → Tally → List ℕ → Type 0
-  AtPage last n cost page = whole ≡ hit_in page cost (batch n) (searched k page) (read_through g k f (passing_from g k p (n - 1 - last) (n - 1)) cost)
+    pub left-all : live ≡ live_of p → flushes ≡ flushes_of p → LeftAt 0 already
+    left-all el ef = let l : live - 0 ≡ live_of p = omega arith in let f : flushes - 0 ≡ flushes_of p = omega arith in rw (passing-from g k p, l, f)
 
-  module _ (last n : ℕ) where
-    pub at-start : n - last ≡ live_of p → n ≡ flushes_of p → AtBatch last n already
-    at-start el en = rw (passing-from g k p, el, en)
+    module _ (age : ℕ) (cost : Tally) (left : LeftAt age cost) where
+      pub left-none : live ≤ age → whole ≡ absent cost
+      left-none l = left ∙ rw (pass-end g k p (live - age) (flushes - age) (omega arith), read_none, reads-each)
 
-    module _ (cost : Tally) (from : AtBatch last n cost) where
-      pub at-end : n ≤ last → whole ≡ absent cost
-      at-end l = from ∙ rw (pass-end g k p (n - last) n (omega arith), read_none, reads-each)
+      module _ (l : age < live) where
+        older : passing_from g k p (live - age - 1) (flushes - age - 1) ≡ passing_from g k p (live - (age + 1)) (flushes - (age + 1))
+        older = ap₂ (passing_from g k p) (omega arith) (omega arith)
 
-      module _ (l : last < n) where
-        fewer : n - last - 1 ≡ n - 1 - last
-        fewer = omega arith
+        pub left-skip : batch_passes g k p (flushes - age) ≡ false → LeftAt (age + 1) cost
+        left-skip h = left ∙ rw (pass-skip g k p (live - age) (flushes - age) (omega arith) h, older)
 
-        pub at-skip : batch_passes g k p n ≡ false → AtBatch last (n - 1) cost
-        at-skip h = from ∙ rw (pass-skip g k p (n - last) n (omega arith) h, fewer)
+        -- a batch that passes
+        module _ (h : batch_passes g k p (flushes - age) ≡ true) where
+          abbrev page : List ℕ
+          page = page_in g k (flushes - age) f
 
-        module _ (h : batch_passes g k p n ≡ true) where
-          pub at-bad : Expected g k n f ≡ false → whole ≡ refused 13 (cost.reads + 1)
-          at-bad x = from ∙ rw (pass-take g k p (n - last) n (omega arith) h, read-batch, x, reads-each)
+          pub left-bad : Expected g k (flushes - age) f ≡ false → whole ≡ refused 13 (cost.reads + 1)
+          left-bad x = left ∙ rw (pass-take g k p (live - age) (flushes - age) (omega arith) h, read-batch, x, reads-each)
 
-          pub at-page : Expected g k n f ≡ true → (after : Tally) → after.reads ≡ cost.reads + 1 → after.comparisons ≡ cost.comparisons + compared k (page_in g k n f) → AtPage last n after (page_in g k n f)
-          at-page x after er ec =
-              let e : after ≡ page_read (compared k (page_in g k n f)) cost = ap₂ (λ (r m : ℕ). tally r m) er ec in
-              from ∙ rw (pass-take g k p (n - last) n (omega arith) h, read-batch, x, fewer, reads-each, e)
+          -- its page is searched
+          module _ (x : Expected g k (flushes - age) f ≡ true) (after : Tally) (er : after.reads ≡ cost.reads + 1) (ec : after.comparisons ≡ cost.comparisons + compared k page) where
+            at-page : whole ≡ hit_in page after (batch (flushes - age)) (searched k page) (read_through g k f (passing_from g k p (live - (age + 1)) (flushes - (age + 1))) after)
+            at-page =
+                let e : after ≡ page_read (compared k page) cost = ap₂ (λ (r m : ℕ). tally r m) er ec in
+                left ∙ rw (pass-take g k p (live - age) (flushes - age) (omega arith) h, older, read-batch, x, reads-each, e)
+
+            pub left-found : (i : ℕ) → searched k page ≡ Some i → whole ≡ found (value_at page i) after (batch (flushes - age))
+            left-found i s = at-page ∙ rw s
+
+            pub left-next : searched k page ≡ None → LeftAt (age + 1) after
+            left-next s = at-page ∙ rw s

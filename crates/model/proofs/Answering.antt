@@ -2,7 +2,7 @@
 use mathlib.Core.Bool.{true, cond, ◌&&◌}
 use mathlib.Core.List.{List, ◌∷◌}
 use mathlib.Core.Logic.{◌⊎◌, inl, inr, ⊎_elim}
-use mathlib.Core.Option.{Option, none, some}
+use Rattle.std.specs.Prelude.{Option, None, Some}
 use mathlib.Core.Path.{◌≡◌, refl, sym, ◌∙◌, ap}
 use Prim.Native.Nat.{ℕ, zero, suc, ◌+◌, ◌-◌, ◌≤◌, ◌<◌}
 use native.Mathlib.Omega.{arith}
@@ -25,9 +25,9 @@ use Rattle.model.proofs.Lookup.{with_page, read_none, read-batch, sought-listed,
 
 -- ---- what a search of a page leaves a get to answer
 hit-or-later : (page : List ℕ) (cost : Tally) (place : Place) (o : Option ℕ) (later : Answer) (v : ℕ) (c : Tally) (at : Place) → hit_in page cost place o later ≡ found v c at
-    → ((i : ℕ) × (o ≡ some i) × (value_at page i ≡ v) × (place ≡ at)) ⊎ (later ≡ found v c at)
-hit-or-later page cost place none later v c at e = inr e
-hit-or-later page cost place (some i) later v c at e = inl (i, refl, cc, cc)
+    → ((i : ℕ) × (o ≡ Some i) × (value_at page i ≡ v) × (place ≡ at)) ⊎ (later ≡ found v c at)
+hit-or-later page cost place None later v c at e = inr e
+hit-or-later page cost place (Some i) later v c at e = inl (i, refl, cc, cc)
 
 -- ---- the places that a text goes through
 module _ (h : Head) (i : ℕ) where
@@ -45,12 +45,12 @@ record Hit (g : Geometry) (k : ℕ) (p f : List ℕ) (v : ℕ) (at : Place) : Ty
   below : number ≤ live_of p
   here : source (head_of p) number ≡ at
   entry : ℕ
-  first : searched k (source_page g (partition_of g k) p f at (page_of g k)) ≡ some entry
+  first : searched k (source_page g (partition_of g k) p f at (page_of g k)) ≡ Some entry
   value : value_at (source_page g (partition_of g k) p f at (page_of g k)) entry ≡ v
 
 module _ (g : Geometry) (k : ℕ) (p f : List ℕ) (v : ℕ) (c : Tally) (at : Place) where
   -- what the search of one source gives, if the answer is its
-  hit : (number entry : ℕ) (place : Place) → number ≤ live_of p → source (head_of p) number ≡ place → searched k (source_page g (partition_of g k) p f place (page_of g k)) ≡ some entry
+  hit : (number entry : ℕ) (place : Place) → number ≤ live_of p → source (head_of p) number ≡ place → searched k (source_page g (partition_of g k) p f place (page_of g k)) ≡ Some entry
       → value_at (source_page g (partition_of g k) p f place (page_of g k)) entry ≡ v → place ≡ at → Hit g k p f v at
   hit number entry place l here first value same =
       record { number = number; below = l; here = here ∙ same; entry = entry; first = rw (← same) first; value = rw (← same) value }
@@ -78,8 +78,8 @@ module _ (g : Geometry) (k : ℕ) (p f : List ℕ) (v : ℕ) (c : Tally) (at : P
   found-hit flushed r = go (listed_at (listed_of p) k (list_of g p)) refl
     where
       go : (o : Option ℕ) → listed_at (listed_of p) k (list_of g p) ≡ o → Hit g k p f v at
-      go (some i) e = let a : absent (tally 0 0) ≡ found v c at = sym (sought-listed g k f p i e) ∙ r in let z : ◌≡◌ {A = ℕ} 0 1 = cc in absurd (omega arith)
-      go none e =
+      go (Some i) e = let a : absent (tally 0 0) ≡ found v c at = sym (sought-listed g k f p i e) ∙ r in let z : ◌≡◌ {A = ℕ} 0 1 = cc in absurd (omega arith)
+      go None e =
           let page : List ℕ = buffer_of g p (page_of g k) in
           let cost : Tally = tally 0 (compared k page) in
           ⊎_elim (λ w. hit (live_of p) w.0 buffer (omega arith) (source-buffer (head_of p) (live_of p) (omega arith)) w.1 w.2 w.3)
@@ -110,7 +110,7 @@ there-found : (at : Place) (v : ℕ) (c : Tally) → is_found_in at (found v c a
 there-found buffer v c = refl
 there-found (batch n) v c = eq-eqb n n refl
 
-at_entry : (i j : ℕ) (o : Option ℕ) → o ≡ some j → is_at i o ≡ true → i ≡ j
+at_entry : (i j : ℕ) (o : Option ℕ) → o ≡ Some j → is_at i o ≡ true → i ≡ j
 at_entry i j o e h = eqb-true i j (rw e at h)
 
 module _ (g : Geometry) (t : ℕ) (p f : List ℕ) (flushed : live_of p ≤ flushes_of p) where
@@ -133,7 +133,7 @@ module _ (g : Geometry) (t : ℕ) (p f : List ℕ) (flushed : live_of p ≤ flus
 
 module _ (g : Geometry) (t : ℕ) (p f : List ℕ) where
   -- an entry answers by its key
-  answers_by : (at : Place) (q i k : ℕ) → key_at (source_page g t p f at q) i ≡ k → partition_of g k ≡ t → page_of g k ≡ q → is_found_in at (sought g k p f) ≡ true → searched k (source_page g t p f at q) ≡ some i → answers_with g t p f at q i ≡ true
+  answers_by : (at : Place) (q i k : ℕ) → key_at (source_page g t p f at q) i ≡ k → partition_of g k ≡ t → page_of g k ≡ q → is_found_in at (sought g k p f) ≡ true → searched k (source_page g t p f at q) ≡ Some i → answers_with g t p f at q i ≡ true
   unfolding answers_with answers_in
   answers_by at q i k key part number here first = rw (key, eq-eqb _ _ part, eq-eqb _ _ number, here, first, eq-eqb i i refl)
 
@@ -156,7 +156,7 @@ module _ (g : Geometry) (t : ℕ) (p f : List ℕ) (flushed : live_of p ≤ flus
       let there = found-hit g k p f v c at flushed says in
       let near : List ℕ = source_page g t p f (source_at p there.number) (page_of g k) in
       let same : source_page g (partition_of g k) p f at (page_of g k) ≡ near = ap (λ (u : ℕ). source_page g u p f at (page_of g k)) part ∙ ap (λ (place : Place). source_page g t p f place (page_of g k)) (sym there.here) in
-      let searches : searched k near ≡ some there.entry = ap (searched k) (sym same) ∙ there.first in
+      let searches : searched k near ≡ Some there.entry = ap (searched k) (sym same) ∙ there.first in
       let its = first-at (λ i. eqb (key_at near i) k) (count_of near) 1 there.entry searches in
       let behind : there.entry ≡ there.entry - 1 + 1 = omega (arith, its.low) in
       let key : key_at near (there.entry - 1 + 1) ≡ k = ap (key_at near) (sym behind) ∙ eqb-true (key_at near there.entry) k its.passed in
@@ -166,7 +166,7 @@ module _ (g : Geometry) (t : ℕ) (p f : List ℕ) (flushed : live_of p ≤ flus
         source_below = there.below;
         place = there.entry - 1;
         place_below = omega (arith, its.high, its.low);
-        answers = answers_by g t p f (source_at p there.number) (page_of g k) (there.entry - 1 + 1) k key part refl shows (searches ∙ ap (λ (i : ℕ). some i) behind);
+        answers = answers_by g t p f (source_at p there.number) (page_of g k) (there.entry - 1 + 1) k key part refl shows (searches ∙ ap (λ (i : ℕ). Some i) behind);
         key = key;
         value = ap (value_at near) (sym behind) ∙ ap (λ (xs : List ℕ). value_at xs there.entry) (sym same) ∙ there.value;
       }

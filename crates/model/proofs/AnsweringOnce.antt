@@ -2,7 +2,7 @@
 use mathlib.Core.Bool.{true, false≢true}
 use mathlib.Core.List.{List}
 use mathlib.Core.Logic.{⊎_elim}
-use mathlib.Core.Option.{Option, none, some}
+use Rattle.std.specs.Prelude.{Option, None, Some}
 use mathlib.Core.Path.{◌≡◌, sym, ◌∙◌, ap}
 use Prim.Native.Nat.{ℕ, ◌≤◌, ◌<◌}
 use native.Mathlib.Omega.{arith}
@@ -20,15 +20,15 @@ use Rattle.model.proofs.Parts.{lt-or-ge}
 use Rattle.model.proofs.Answering.{source-batch, source-buffer, answers_with_lem}
 
 -- it is the first of its page with the key
-at_first : (i : ℕ) (o : Option ℕ) → is_at i o ≡ true → o ≡ some i
-at_first i none e = absurd (false≢true e)
-at_first i (some j) e = ap some (sym (eqb-true i j e))
+at_first : (i : ℕ) (o : Option ℕ) → is_at i o ≡ true → o ≡ Some i
+at_first i None e = absurd (false≢true e)
+at_first i (Some j) e = ap Some (sym (eqb-true i j e))
 
 module _ (g : Geometry) (t : ℕ) (p f : List ℕ) (at : Place) (q i : ℕ) where
   abbrev page : List ℕ
   page = source_page g t p f at q
 
-  answers-first : answers_with g t p f at q i ≡ true → searched (key_at page i) page ≡ some i
+  answers-first : answers_with g t p f at q i ≡ true → searched (key_at page i) page ≡ Some i
   unfolding answers_with
   answers-first e = at_first i (searched (key_at page i) page) (both_true (answers_in g t p f at q (key_at page i)) (is_at i (searched (key_at page i) page)) e).1
 
@@ -65,5 +65,5 @@ module _ (g : Geometry) (t : ℕ) (p f : List ℕ) (flushed : live_of p ≤ flus
       let pages : q ≡ q' = sym one.page ∙ ap (page_of g) alike ∙ other.page in
       let same : page_in s q ≡ page_in s' q' = rw (sources, pages) in
       let searches : searched (key_at (page_in s q) i) (page_in s q) ≡ searched (key_at (page_in s' q') i') (page_in s' q') = ap (λ (x : ℕ). searched x (page_in s q)) alike ∙ ap (searched (key_at (page_in s' q') i')) same in
-      let firsts : some i ≡ some i' = sym (answers-first g t p f (source (head_of p) s) q i e) ∙ searches ∙ answers-first g t p f (source (head_of p) s') q' i' e' in
+      let firsts : Some i ≡ Some i' = sym (answers-first g t p f (source (head_of p) s) q i e) ∙ searches ∙ answers-first g t p f (source (head_of p) s') q' i' e' in
       (sources, pages, cc)

@@ -3,7 +3,7 @@ use Prim.Native.Nat.{ℕ, ◌≤◌, ◌<◌}
 use mathlib.Core.Bool.{Bool, true, false, cond, not, ◌||◌}
 use mathlib.Core.Path.{◌≡◌, refl, sym, ◌∙◌}
 use mathlib.Core.List.{List}
-use mathlib.Core.Option.{Option, none, some}
+use Rattle.std.specs.Prelude.{Option, None, Some}
 use native.Mathlib.Omega.{arith}
 use lib.Dec.{eqb, ltb}
 use lib.ListN.{length}
@@ -44,7 +44,7 @@ module _ (a : Areas) where
   unfolding unopened
   opens o later = rw (le-ltb _ _ o.long, o.fine, eq-eqb _ _ o.eighth_zero, le-ltb _ _ o.memory_fits, le-ltb _ _ o.flash_fits)
 
-  pub opened : (later : Option Refusal) → unopened a later ≡ none → Opened
+  pub opened : (later : Option Refusal) → unopened a later ≡ None → Opened
   unfolding unopened
   opened later e =
       let one = refuse-none (ltb (length a.memory) 32) 2 _ e in
@@ -60,39 +60,39 @@ module _ (a : Areas) where
         flash_fits = ltb-false _ _ four.0;
       }
 
-  pub later-passed : (later : Option Refusal) → unopened a later ≡ none → later ≡ none
+  pub later-passed : (later : Option Refusal) → unopened a later ≡ None → later ≡ None
   later-passed later e = sym (opens (opened later e) later) ∙ e
 
   -- which of them refuses
   module _ (later : Option Refusal) where
-    pub opening-2 : length a.memory < 32 → unopened a later ≡ some (unread 2)
+    pub opening-2 : length a.memory < 32 → unopened a later ≡ Some (unread 2)
     unfolding unopened
     opening-2 l = rw (lt-ltb _ _ l)
 
     module _ (long : 32 ≤ length a.memory) where
-      pub opening-11 : allowed (geometry_in a) ≡ false → unopened a later ≡ some (unread 11)
+      pub opening-11 : allowed (geometry_in a) ≡ false → unopened a later ≡ Some (unread 11)
       unfolding unopened
       opening-11 e = rw (le-ltb _ _ long, e)
 
       module _ (fine : allowed (geometry_in a) ≡ true) where
-        pub opening-11-eighth : (eighth a.memory ≡ 0 → ⊥) → unopened a later ≡ some (unread 11)
+        pub opening-11-eighth : (eighth a.memory ≡ 0 → ⊥) → unopened a later ≡ Some (unread 11)
         unfolding unopened
         opening-11-eighth e = rw (le-ltb _ _ long, fine, ne_eqb _ _ e)
 
         module _ (unset : eighth a.memory ≡ 0) where
-          pub opening-2-need : length a.memory < memory_need (geometry_in a) → unopened a later ≡ some (unread 2)
+          pub opening-2-need : length a.memory < memory_need (geometry_in a) → unopened a later ≡ Some (unread 2)
           unfolding unopened
           opening-2-need l = rw (le-ltb _ _ long, fine, eq-eqb _ _ unset, lt-ltb _ _ l)
 
-          pub opening-3 : memory_need (geometry_in a) ≤ length a.memory → length a.flash < flash_need (geometry_in a) → unopened a later ≡ some (unread 3)
+          pub opening-3 : memory_need (geometry_in a) ≤ length a.memory → length a.flash < flash_need (geometry_in a) → unopened a later ≡ Some (unread 3)
           unfolding unopened
           opening-3 m l = rw (le-ltb _ _ long, fine, eq-eqb _ _ unset, le-ltb _ _ m, lt-ltb _ _ l)
 
 -- what those checks refuse they refuse whatever comes later, before any page is read
 abbrev Stays : (Option Refusal → Option Refusal) → Refusal → Type 0
-Stays chain r = (r ≡ unread r.number) × (r.number ≡ 0 → ⊥) × ((later : Option Refusal) → chain later ≡ some r)
+Stays chain r = (r ≡ unread r.number) × (r.number ≡ 0 → ⊥) × ((later : Option Refusal) → chain later ≡ Some r)
 
-stays : (x y z w : Bool) (r : Refusal) → refuse_if x 2 (refuse_if y 11 (refuse_if z 2 (refuse_if w 3 none))) ≡ some r
+stays : (x y z w : Bool) (r : Refusal) → refuse_if x 2 (refuse_if y 11 (refuse_if z 2 (refuse_if w 3 None))) ≡ Some r
     → Stays (λ later. refuse_if x 2 (refuse_if y 11 (refuse_if z 2 (refuse_if w 3 later)))) r
 stays true y z w r e = let d : unread 2 ≡ r = cc in rw (← d) (refl, (λ q. omega arith), λ later. refl)
 stays false true z w r e = let d : unread 11 ≡ r = cc in rw (← d) (refl, (λ q. omega arith), λ later. refl)
@@ -100,7 +100,7 @@ stays false false true w r e = let d : unread 2 ≡ r = cc in rw (← d) (refl, 
 stays false false false true r e = let d : unread 3 ≡ r = cc in rw (← d) (refl, (λ q. omega arith), λ later. refl)
 stays false false false false r e = let z : ◌≡◌ {A = ℕ} 0 1 = cc in absurd (omega arith)
 
-pub unopened-stays : (a : Areas) (r : Refusal) → unopened a none ≡ some r → Stays (unopened a) r
+pub unopened-stays : (a : Areas) (r : Refusal) → unopened a None ≡ Some r → Stays (unopened a) r
 unfolding unopened
 unopened-stays a r e =
     stays (ltb (length a.memory) 32) (not (allowed (geometry_in a)) || not (eqb (eighth a.memory) 0)) (ltb (length a.memory) (memory_need (geometry_in a)))
@@ -118,7 +118,7 @@ Opens (count t) = Unit {0}
 Opens (text t room) = Unit {0}
 Opens (drop t) = Unit {0}
 
-pub stopped : (a : Areas) (r : Refusal) → ((later : Option Refusal) → unopened a later ≡ some r) → (c : Call) → Opens c → checks a c ≡ some r
+pub stopped : (a : Areas) (r : Refusal) → ((later : Option Refusal) → unopened a later ≡ Some r) → (c : Call) → Opens c → checks a c ≡ Some r
 unfolding checks
 stopped a r always (format g) o = absurd o
 stopped a r always (put k v) o = always _
@@ -131,7 +131,7 @@ stopped a r always (text t room) o = always _
 stopped a r always (drop t) o = always _
 
 -- a put of 0 is accepted on no areas
-pub put-not-0 : (a : Areas) (k : ℕ) → checks a (put k 0) ≡ none → ⊥
+pub put-not-0 : (a : Areas) (k : ℕ) → checks a (put k 0) ≡ None → ⊥
 unfolding checks
 put-not-0 a k e = position-not-0 0 (put-accepted (geometry_in a) k (key_partition a k) 0 a.flash (later-passed a _ e)).0 refl
 
@@ -279,7 +279,7 @@ module _ (a : Areas) (c : Call) where
   unfolding after
   refused-unchanged n r e = rw e
 
-  module _ (r : Refusal) (e : checks a c ≡ some r) where
+  module _ (r : Refusal) (e : checks a c ≡ Some r) where
     pub reply-refused : reply a c ≡ refused r.number r.reads
     unfolding reply
     reply-refused = rw e
@@ -287,7 +287,7 @@ module _ (a : Areas) (c : Call) where
     pub after-refused : after a c ≡ a
     after-refused = refused-unchanged r.number r.reads reply-refused
 
-  module _ (e : checks a c ≡ none) where
+  module _ (e : checks a c ≡ None) where
     pub reply-accepted : reply a c ≡ result a c
     unfolding reply
     reply-accepted = rw e

@@ -2,7 +2,7 @@
 use mathlib.Core.Path.{◌≡◌, refl, sym, ◌∙◌, ap, ap₂}
 use mathlib.Core.Bool.{Bool, false, cond}
 use mathlib.Core.List.{List, [], ◌∷◌, ◌++◌, append-nil}
-use mathlib.Core.Option.{Option, none, some}
+use Rattle.std.specs.Prelude.{Option, None, Some}
 use Prim.Native.Nat.{ℕ, zero, suc, ◌+◌, ◌-◌, ◌*◌, ◌^◌, ◌≤◌, ◌<◌}
 use native.Mathlib.Nat.{zero-add, add-zero, add_assoc, suc-add}
 use native.Mathlib.Omega.{arith}
@@ -35,8 +35,8 @@ page_entries p = entries_from 8 (count_of p) 1 p
 
 -- what the record that a search finds holds
 abbrev pub held_at : ℕ → List ℕ → Option ℕ → Option ℕ
-held_at w xs none = none
-held_at w xs (some i) = some (word w xs (16 * i + 8))
+held_at w xs None = None
+held_at w xs (Some i) = Some (word w xs (16 * i + 8))
 
 -- the entries of those of the n records from a on that stay
 unfoldable pub remaining : ℕ → (ℕ → Bool) → ℕ → ℕ → List ℕ → List Entry
@@ -84,15 +84,15 @@ remaining-all w gone zero a xs h = refl
 remaining-all w gone (suc n) a xs h = rw (h a (omega arith) (omega arith), remaining-all w gone n (a + 1) xs (λ i p q. h i (omega arith) (omega arith)))
 
 -- where the first record with the key goes
-pub remaining-first : (w k i n a : ℕ) (xs : List ℕ) → first_record k n a xs ≡ some i → remaining w (eqb i) n a xs ≡ erase k (entries_from w n a xs)
+pub remaining-first : (w k i n a : ℕ) (xs : List ℕ) → first_record k n a xs ≡ Some i → remaining w (eqb i) n a xs ≡ erase k (entries_from w n a xs)
 unfolding remaining entries_from first_from erase
 remaining-first w k i zero a xs e = cc
 remaining-first w k i (suc n) a xs e =
     rw (eqb_comm k (key_at xs a))
     (either (eqb (key_at xs a) k)
-    (λ t. let f : some a ≡ some i = simp t at e in let d : a ≡ i = cc in simp (t, eq-eqb i a (sym d)) (remaining-all w (eqb i) n (a + 1) xs (λ j p q. ne_eqb i j (omega arith))))
+    (λ t. let f : Some a ≡ Some i = simp t at e in let d : a ≡ i = cc in simp (t, eq-eqb i a (sym d)) (remaining-all w (eqb i) n (a + 1) xs (λ j p q. ne_eqb i j (omega arith))))
     (λ t.
-    let f : first_record k n (a + 1) xs ≡ some i = simp t at e in
+    let f : first_record k n (a + 1) xs ≡ Some i = simp t at e in
     let l = first-at (λ j. eqb (key_at xs j) k) n (a + 1) i f in
     simp (t, ne_eqb i a (omega (arith, l.low)), remaining-first w k i n (a + 1) xs f)))
 
@@ -121,18 +121,18 @@ module _ (w : ℕ) (narrow : w ≤ 8) where
   entry-write v i xs s h = cc (word-write-out 8 w v (16 * i + 8) xs (16 * i) (omega arith), word_write w v (16 * i + 8) xs (omega arith) s)
 
   -- a value written into the first record with the key
-  pub store-first : (k v i n a : ℕ) (xs : List ℕ) → v < 256 ^ w → 16 * (a + n) ≤ length xs → first_record k n a xs ≡ some i → store k v (entries_from w n a xs) ≡ entries_from w n a (write w v (16 * i + 8) xs)
+  pub store-first : (k v i n a : ℕ) (xs : List ℕ) → v < 256 ^ w → 16 * (a + n) ≤ length xs → first_record k n a xs ≡ Some i → store k v (entries_from w n a xs) ≡ entries_from w n a (write w v (16 * i + 8) xs)
   unfolding store entries_from first_from
   store-first k v i zero a xs s h e = cc
   store-first k v i (suc n) a xs s h e =
       rw (eqb_comm k (key_at xs a))
       (either (eqb (key_at xs a) k)
       (λ t.
-      let f : some a ≡ some i = simp t at e in
+      let f : Some a ≡ Some i = simp t at e in
       let d : a ≡ i = cc in
       simp (t, ← d) (cc (entry-write v a xs s (omega arith), eqb-true (key_at xs a) k t, entries-write-out w v (16 * a + 8) n (a + 1) xs (omega arith))))
       (λ t.
-      let f : first_record k n (a + 1) xs ≡ some i = simp t at e in
+      let f : first_record k n (a + 1) xs ≡ Some i = simp t at e in
       let l = first-at (λ j. eqb (key_at xs j) k) n (a + 1) i f in
       simp (t, store-first k v i n (a + 1) xs s (omega arith) f, entry-write-out w v (16 * i + 8) a xs (omega (arith, l.low)))))
 
@@ -197,7 +197,7 @@ module _ (k v : ℕ) (p : List ℕ) where
       (entries-added 8 (omega arith) k v c 1 (c + 1) p (omega arith) hk hv (omega arith))
 
 -- a used entry that a search finds
-found-used : (k i : ℕ) (p : List ℕ) → searched k p ≡ some i → (1 ≤ i) × (i < 1 + count_of p)
+found-used : (k i : ℕ) (p : List ℕ) → searched k p ≡ Some i → (1 ≤ i) × (i < 1 + count_of p)
 found-used k i p e = let f = first-at (λ j. eqb (key_at p j) k) (count_of p) 1 i e in (f.low, f.high)
 
 head-replaced : (i v : ℕ) (p : List ℕ) → 1 ≤ i → (m b : ℕ) → b + m ≤ 16 → word m (replaced i v p) b ≡ word m p b
@@ -217,7 +217,7 @@ module _ (i : ℕ) (p : List ℕ) (fits : 16 + 16 * count_of p ≤ length p) (sm
   unfolding removed
   count-removed = word_write 2 (count_of p - 1) 0 _ (omega (arith, length-closed_up (eqb i) (count_of p) 1 p)) (omega arith)
 
-  entries-removed : (k : ℕ) → searched k p ≡ some i → page_entries (removed i p) ≡ erase k (page_entries p)
+  entries-removed : (k : ℕ) → searched k p ≡ Some i → page_entries (removed i p) ≡ erase k (page_entries p)
   unfolding removed
   entries-removed k e =
       let c = count_of p in
@@ -231,8 +231,8 @@ unfolding stored
 head-stored k v p m b l h = go (searched k p) refl
   where
     go : (o : Option ℕ) → searched k p ≡ o → word m (stored_at o k v p) b ≡ word m p b
-    go none e = head-appended k v p m b l h
-    go (some i) e = head-replaced i v p (found-used k i p e).0 m b h
+    go None e = head-appended k v p m b l h
+    go (Some i) e = head-replaced i v p (found-used k i p e).0 m b h
 
 module _ (p : List ℕ) (fits : 16 + 16 * count_of p ≤ length p) where
   pub head-without : (k m b : ℕ) → 2 ≤ b → b + m ≤ 16 → word m (without k p) b ≡ word m p b
@@ -240,8 +240,8 @@ module _ (p : List ℕ) (fits : 16 + 16 * count_of p ≤ length p) where
   head-without k m b l h = go (searched k p)
     where
       go : (o : Option ℕ) → word m (removed_at o p) b ≡ word m p b
-      go none = refl
-      go (some i) = head-removed i p m b l h
+      go None = refl
+      go (Some i) = head-removed i p m b l h
 
   module _ (small : length p ≤ 4096) where
     pub entries-without : (k : ℕ) → page_entries (without k p) ≡ erase k (page_entries p)
@@ -249,17 +249,17 @@ module _ (p : List ℕ) (fits : 16 + 16 * count_of p ≤ length p) where
     entries-without k = go (searched k p) refl
       where
         go : (o : Option ℕ) → searched k p ≡ o → page_entries (removed_at o p) ≡ erase k (page_entries p)
-        go none e = sym (erase-none k (page_entries p) (find-searched k p ∙ ap (held_at 8 p) e))
-        go (some i) e = entries-removed i p fits small k e
+        go None e = sym (erase-none k (page_entries p) (find-searched k p ∙ ap (held_at 8 p) e))
+        go (Some i) e = entries-removed i p fits small k e
 
-    module _ (k v : ℕ) (hk : k < 2 ^ 64) (hv : v < 2 ^ 64) (room : searched k p ≡ none → 32 + 16 * count_of p ≤ length p) where
+    module _ (k v : ℕ) (hk : k < 2 ^ 64) (hv : v < 2 ^ 64) (room : searched k p ≡ None → 32 + 16 * count_of p ≤ length p) where
       pub entries-stored : page_entries (stored k v p) ≡ store k v (page_entries p)
       unfolding stored
       entries-stored = go (searched k p) refl
         where
           go : (o : Option ℕ) → searched k p ≡ o → page_entries (stored_at o k v p) ≡ store k v (page_entries p)
-          go none e = entries-appended k v p hk hv (room e) small ∙ sym (store-new k v (page_entries p) (find-searched k p ∙ ap (held_at 8 p) e))
-          go (some i) e = entries-replaced i v p (found-used k i p e).0 ∙ sym (store-first 8 (omega arith) k v i (count_of p) 1 p hv (omega arith) e)
+          go None e = entries-appended k v p hk hv (room e) small ∙ sym (store-new k v (page_entries p) (find-searched k p ∙ ap (held_at 8 p) e))
+          go (Some i) e = entries-replaced i v p (found-used k i p e).0 ∙ sym (store-first 8 (omega arith) k v i (count_of p) 1 p hv (omega arith) e)
 
 -- ---- an emptied page
 module _ (q t : ℕ) (p : List ℕ) where

@@ -3,7 +3,7 @@ use Prim.Native.Nat.{ℕ}
 use mathlib.Core.Bool.{true, false, not, ◌&&◌, and-false}
 use mathlib.Core.Path.{◌≡◌}
 use mathlib.Core.List.{List}
-use mathlib.Core.Option.{none, some}
+use Rattle.std.specs.Prelude.{None, Some}
 use lib.Dec.{eqb}
 use borrow.Author.Tests.{eqb-false, eq-eqb, ne_eqb, not-true}
 use Rattle.model.specs.declared.Geometry.{Geometry}
@@ -39,7 +39,7 @@ module _ (g : Geometry) (k : ℕ) (p : List ℕ) where
   abbrev page : List ℕ
   page = buffer_of g p (page_of g k)
 
-  pub due-kept : (i : ℕ) → searched k page ≡ some i → due g k p ≡ false
+  pub due-kept : (i : ℕ) → searched k page ≡ Some i → due g k p ≡ false
   unfolding due
   due-kept i e = rw e
 
@@ -47,21 +47,21 @@ module _ (g : Geometry) (k : ℕ) (p : List ℕ) where
   unfolding due
   due-room h = rw (ne_eqb _ _ h, and-false)
 
-  pub due-full : searched k page ≡ none → count_of page ≡ capacity g → due g k p ≡ true
+  pub due-full : searched k page ≡ None → count_of page ≡ capacity g → due g k p ≡ true
   unfolding due
   due-full e full = rw (e, eq-eqb _ _ full)
 
   -- a new key finds room where none is
-  pub undue-room : due g k p ≡ false → searched k page ≡ none → count_of page ≡ capacity g → ⊥
+  pub undue-room : due g k p ≡ false → searched k page ≡ None → count_of page ≡ capacity g → ⊥
   unfolding due
   undue-room h e = eqb-false (count_of page) (capacity g) (rw e at h)
 
   -- an append adds 1, and so does every put that flushes
-  pub appends-found : (i : ℕ) → searched k page ≡ some i → appends g k p ≡ 0
+  pub appends-found : (i : ℕ) → searched k page ≡ Some i → appends g k p ≡ 0
   unfolding appends added
   appends-found i e = rw e
 
-  pub appends-new : searched k page ≡ none → appends g k p ≡ 1
+  pub appends-new : searched k page ≡ None → appends g k p ≡ 1
   unfolding appends added
   appends-new e = rw e
 
@@ -71,16 +71,16 @@ module _ (g : Geometry) (k : ℕ) (p : List ℕ) where
 
   -- what is checked whatever the value
   module _ (f : List ℕ) where
-    pub room-12 : key_overfull g k p ≡ true → room_checks g k p f ≡ some (unread 12)
+    pub room-12 : key_overfull g k p ≡ true → room_checks g k p f ≡ Some (unread 12)
     unfolding room_checks
     room-12 e = rw e
 
     module _ (fits : key_overfull g k p ≡ false) where
-      pub room-undue : due g k p ≡ false → room_checks g k p f ≡ refuse_if (total_out g (appends g k p) 0 (head_of p)) 12 none
+      pub room-undue : due g k p ≡ false → room_checks g k p f ≡ refuse_if (total_out g (appends g k p) 0 (head_of p)) 12 None
       unfolding room_checks
       room-undue e = rw (fits, e)
 
-      pub room-12-due : due g k p ≡ true → some_page_overfull g p ≡ true → room_checks g k p f ≡ some (unread 12)
+      pub room-12-due : due g k p ≡ true → some_page_overfull g p ≡ true → room_checks g k p f ≡ Some (unread 12)
       unfolding room_checks
       room-12-due is-due e = rw (fits, is-due, e)
 
@@ -89,16 +89,16 @@ module _ (g : Geometry) (k : ℕ) (p : List ℕ) where
       room-due is-due e = rw (fits, is-due, e)
 
     -- what has passed: by whether a flush is due
-    pub room-accepted : room_checks g k p f ≡ none → (key_overfull g k p ≡ false)
+    pub room-accepted : room_checks g k p f ≡ None → (key_overfull g k p ≡ false)
         × (due g k p ≡ false → total_out g (appends g k p) 0 (head_of p) ≡ false)
-        × (due g k p ≡ true → (some_page_overfull g p ≡ false) × (due_checks g (partition_of g k) 1 p f ≡ none))
+        × (due g k p ≡ true → (some_page_overfull g p ≡ false) × (due_checks g (partition_of g k) 1 p f ≡ None))
     unfolding room_checks
     room-accepted e =
         let one = refuse-none (key_overfull g k p) 12 _ e in
-        (one.0, (λ d. (refuse-none _ 12 none (rw d at one.1)).0), (λ d. refuse-none (some_page_overfull g p) 12 _ (rw d at one.1)))
+        (one.0, (λ d. (refuse-none _ 12 None (rw d at one.1)).0), (λ d. refuse-none (some_page_overfull g p) 12 _ (rw d at one.1)))
 
   module _ (v : ℕ) (f : List ℕ) where
-    pub put-21 : no_position v ≡ true → put_checks g k v p f ≡ some (unread 21)
+    pub put-21 : no_position v ≡ true → put_checks g k v p f ≡ Some (unread 21)
     unfolding put_checks
     put-21 e = rw e
 
@@ -108,33 +108,33 @@ module _ (g : Geometry) (k : ℕ) (p : List ℕ) where
       put-room = rw position
 
     -- what an accepted put passed: by whether a flush was due
-    pub put-accepted : put_checks g k v p f ≡ none → (no_position v ≡ false) × (key_overfull g k p ≡ false)
+    pub put-accepted : put_checks g k v p f ≡ None → (no_position v ≡ false) × (key_overfull g k p ≡ false)
         × (due g k p ≡ false → total_out g (appends g k p) 0 (head_of p) ≡ false)
-        × (due g k p ≡ true → (some_page_overfull g p ≡ false) × (due_checks g (partition_of g k) 1 p f ≡ none))
+        × (due g k p ≡ true → (some_page_overfull g p ≡ false) × (due_checks g (partition_of g k) 1 p f ≡ None))
     unfolding put_checks
     put-accepted e = let one = refuse-none (no_position v) 21 _ e in let w = room-accepted f one.1 in (one.0, w.0, w.1, w.2)
 
   -- ---- get: 12
-  pub get-12 : key_overfull g k p ≡ true → get_checks g k p ≡ some (unread 12)
+  pub get-12 : key_overfull g k p ≡ true → get_checks g k p ≡ Some (unread 12)
   unfolding get_checks
   get-12 e = rw e
 
-  pub get-passes : key_overfull g k p ≡ false → get_checks g k p ≡ none
+  pub get-passes : key_overfull g k p ≡ false → get_checks g k p ≡ None
   unfolding get_checks
   get-passes e = rw e
 
-  pub get-fits : get_checks g k p ≡ none → key_overfull g k p ≡ false
+  pub get-fits : get_checks g k p ≡ None → key_overfull g k p ≡ false
   unfolding get_checks
-  get-fits e = (refuse-none (key_overfull g k p) 12 none e).0
+  get-fits e = (refuse-none (key_overfull g k p) 12 None e).0
 
   -- ---- del: 12, 14, 12
-  pub del-12 : key_overfull g k p ≡ true → del_checks g k p ≡ some (unread 12)
+  pub del-12 : key_overfull g k p ≡ true → del_checks g k p ≡ Some (unread 12)
   unfolding del_checks
   del-12 e = rw e
 
   -- with what fits, only a place in the list can be wanting, or an entry in the total
   pub del-full : key_overfull g k p ≡ false → del_checks g k p
-      ≡ refuse_if (not (is_listed g k p) && is_some (stamp_for g k p) && eqb (listed_of p) g.list) 14 (refuse_if (total_out g 0 (removes g k p) (head_of p)) 12 none)
+      ≡ refuse_if (not (is_listed g k p) && is_some (stamp_for g k p) && eqb (listed_of p) g.list) 14 (refuse_if (total_out g 0 (removes g k p) (head_of p)) 12 None)
   unfolding del_checks
   del-full e = rw e
 

@@ -1,7 +1,7 @@
 -- Each change keeps the length of what it changes. (Of `closed_up`, Closing says it.)
 use mathlib.Core.Path.{◌≡◌, refl}
 use mathlib.Core.List.{List}
-use mathlib.Core.Option.{Option, none, some}
+use Rattle.std.specs.Prelude.{Option, None, Some}
 use Prim.Native.Nat.{ℕ, zero, suc}
 use lib.ListN.{length, length-set, length-replicate}
 use lib.Seq.{length-sets}
@@ -36,16 +36,16 @@ unfolding removed
 length_removed i p = simp (length-write, length-closed_up)
 
 length-stored_at : (o : Option ℕ) (k v : ℕ) (p : List ℕ) → length (stored_at o k v p) ≡ length p
-length-stored_at (some i) k v p = length-replaced i v p
-length-stored_at none k v p = length-appended k v p
+length-stored_at (Some i) k v p = length-replaced i v p
+length-stored_at None k v p = length-appended k v p
 
 pub length-stored : (k v : ℕ) (p : List ℕ) → length (stored k v p) ≡ length p
 unfolding stored
 length-stored k v p = length-stored_at (searched k p) k v p
 
 length-removed_at : (o : Option ℕ) (p : List ℕ) → length (removed_at o p) ≡ length p
-length-removed_at (some i) p = length_removed i p
-length-removed_at none p = refl
+length-removed_at (Some i) p = length_removed i p
+length-removed_at None p = refl
 
 pub length_without : (k : ℕ) (p : List ℕ) → length (without k p) ≡ length p
 unfolding without
@@ -151,8 +151,8 @@ length-with_batch g t p (suc q) f = simp (length-with_batch_page, length-with_ba
 
 -- ---- put
 length-unlisted_at : (o : Option ℕ) (g : Geometry) (p : List ℕ) → length (unlisted_at o g p) ≡ length p
-length-unlisted_at (some i) g p = simp (length-with_head, length-within)
-length-unlisted_at none g p = refl
+length-unlisted_at (Some i) g p = simp (length-with_head, length-within)
+length-unlisted_at None g p = refl
 
 pub length-unlisted : (g : Geometry) (k : ℕ) (p : List ℕ) → length (unlisted g k p) ≡ length p
 unfolding unlisted
@@ -168,5 +168,5 @@ unfolding unbuffered
 length-unbuffered g k p = simp length-within
 
 pub length-listed_with : (o : Option ℕ) (g : Geometry) (k : ℕ) (p : List ℕ) → length (listed_with o g k p) ≡ length p
-length-listed_with (some stamp) g k p = simp (length-with_head, length-within)
-length-listed_with none g k p = refl
+length-listed_with (Some stamp) g k p = simp (length-with_head, length-within)
+length-listed_with None g k p = refl

@@ -26,7 +26,6 @@ pub mod PartitionsCalls
 pub mod Totals
 pub mod Lookup
 pub mod Calls
-pub mod Texts
 pub mod Decimals
 pub mod Numbers
 pub mod RoundTrip

@@ -2,7 +2,7 @@
 use mathlib.Core.Path.{◌≡◌, refl, ◌∙◌}
 use mathlib.Core.Bool.{Bool}
 use mathlib.Core.List.{List, [], ◌∷◌, ◌++◌}
-use mathlib.Core.Option.{some}
+use Rattle.std.specs.Prelude.{Some}
 use Prim.Native.Nat.{ℕ, zero, suc, ◌+◌, ◌-◌, ◌*◌, ◌^◌, ◌≤◌, ◌<◌}
 use native.Mathlib.Omega.{arith}
 use lib.Dec.{eqb}
@@ -37,7 +37,7 @@ remaining-strike test (suc n) a l = rw (remaining-strike test n (a + 1) l)
 
 module _ (n : ℕ) (l : List ℕ) (fits : 16 * n ≤ length l) where
   -- the first entry of the key removed
-  pub entries-struck : (k i : ℕ) → listed_at n k l ≡ some i → list_entries (n - 1) (struck i n l) ≡ erase k (list_entries n l)
+  pub entries-struck : (k i : ℕ) → listed_at n k l ≡ Some i → list_entries (n - 1) (struck i n l) ≡ erase k (list_entries n l)
   unfolding struck
   entries-struck k i e =
       let f = first-at (λ j. eqb (word 8 l (16 * j)) k) n 0 i e in

@@ -1,10 +1,11 @@
 -- A line that says a call has at most 138 bytes: its texts are fixed, and a number below its limit has at most so many figures.
+use Rattle.std.proofs.lemmas.Option.{same_Some}
 use Prim.Native.Nat.{ℕ, suc, ◌+◌, ◌-◌, ◌*◌, ◌^◌, ◌≤◌, ◌<◌}
 use Prim.Native.String.{String}
 use mathlib.Core.Bool.{Bool, true, false, cond}
 use mathlib.Core.Logic.{⊎_elim}
 use mathlib.Core.List.{List, [], ◌∷◌}
-use mathlib.Core.Option.{Option, none, some, some-injective}
+use Rattle.std.specs.Prelude.{Option, None, Some}
 use mathlib.Core.Path.{◌≡◌, refl, ap}
 use native.Mathlib.Nat.{pow-suc, pow-le-pow_right}
 use native.Mathlib.Omega.{arith}
@@ -43,45 +44,45 @@ most-figures (x ∷ xs) k p e h = go (between 48 57 x) refl e h
     go false f e h = omega arith
 
 -- ---- what is left behind a text and a number
-past-length : (t xs ys : List ℕ) → past t xs ≡ some ys → length xs ≡ length t + length ys
+past-length : (t xs ys : List ℕ) → past t xs ≡ Some ys → length xs ≡ length t + length ys
 unfolding past
-past-length [] xs ys e = omega (arith, ap length (some-injective _ _ e))
+past-length [] xs ys e = omega (arith, ap length (same_Some _ _ e))
 past-length (b ∷ t) [] ys e = let z : ◌≡◌ {A = ℕ} 0 1 = cc in omega arith
 past-length (b ∷ t) (x ∷ xs) ys e = go (eqb x b) (past-length t xs ys) e
   where
-    go : (o : Bool) → (past t xs ≡ some ys → length xs ≡ length t + length ys) → cond o (past t xs) none ≡ some ys → length (x ∷ xs) ≡ length (b ∷ t) + length ys
+    go : (o : Bool) → (past t xs ≡ Some ys → length xs ≡ length t + length ys) → cond o (past t xs) None ≡ Some ys → length (x ∷ xs) ≡ length (b ∷ t) + length ys
     go true f e = omega (arith, f e)
     go false f e = let z : ◌≡◌ {A = ℕ} 0 1 = cc in omega arith
 
 module _ (limit k : ℕ) (p : 0 < k) (most : limit ≤ 10 ^ k) (xs : List ℕ) where
-  figure-length : (f : Figure) → figure limit xs ≡ some f → length xs ≤ k + length f.rest
+  figure-length : (f : Figure) → figure limit xs ≡ Some f → length xs ≤ k + length f.rest
   figure-length f e =
       let r = figure-read limit xs f e in
       omega (arith, most-figures xs k p r.plain (omega (arith, r.value, r.below)), simp length-drop at (ap length r.rest))
 
 -- ---- what says a call has at most n bytes
 abbrev AtMost : ℕ → List ℕ → Option Call → Type 0
-AtMost n xs o = (c : Call) → o ≡ some c → length xs ≤ n
+AtMost n xs o = (c : Call) → o ≡ Some c → length xs ≤ n
 
 at-end : (s : String) (xs : List ℕ) (c : Call) → AtMost (length (text s)) xs (ending s xs c)
 at-end s xs c d e = go (past (text s) xs) refl e
   where
-    go : (o : Option (List ℕ)) → past (text s) xs ≡ o → then o (at_end c) ≡ some d → length xs ≤ length (text s)
-    go none h e = let z : ◌≡◌ {A = ℕ} 0 1 = cc in omega arith
-    go (some []) h e = omega (arith, past-length (text s) xs [] h)
-    go (some (y ∷ ys)) h e = let z : ◌≡◌ {A = ℕ} 0 1 = cc in omega arith
+    go : (o : Option (List ℕ)) → past (text s) xs ≡ o → then o (at_end c) ≡ Some d → length xs ≤ length (text s)
+    go None h e = let z : ◌≡◌ {A = ℕ} 0 1 = cc in omega arith
+    go (Some []) h e = omega (arith, past-length (text s) xs [] h)
+    go (Some (y ∷ ys)) h e = let z : ◌≡◌ {A = ℕ} 0 1 = cc in omega arith
 
 module _ (limit k : ℕ) (p : 0 < k) (most : limit ≤ 10 ^ k) where
   number-then : (s : String) (n : ℕ) (xs : List ℕ) (g : Figure → Option Call) → ((f : Figure) → AtMost n f.rest (g f)) → AtMost (length (text s) + k + n) xs (then (number_past s limit xs) g)
   number-then s n xs g more c e = go (past (text s) xs) refl e
     where
-      here : (ys : List ℕ) → past (text s) xs ≡ some ys → (o : Option Figure) → figure limit ys ≡ o → then o g ≡ some c → length xs ≤ length (text s) + k + n
-      here ys h none i e = let z : ◌≡◌ {A = ℕ} 0 1 = cc in omega arith
-      here ys h (some f) i e = omega (arith, past-length (text s) xs ys h, figure-length limit k p most ys f i, more f c e)
+      here : (ys : List ℕ) → past (text s) xs ≡ Some ys → (o : Option Figure) → figure limit ys ≡ o → then o g ≡ Some c → length xs ≤ length (text s) + k + n
+      here ys h None i e = let z : ◌≡◌ {A = ℕ} 0 1 = cc in omega arith
+      here ys h (Some f) i e = omega (arith, past-length (text s) xs ys h, figure-length limit k p most ys f i, more f c e)
 
-      go : (o : Option (List ℕ)) → past (text s) xs ≡ o → then (then o (figure limit)) g ≡ some c → length xs ≤ length (text s) + k + n
-      go none h e = let z : ◌≡◌ {A = ℕ} 0 1 = cc in omega arith
-      go (some ys) h e = here ys h (figure limit ys) refl e
+      go : (o : Option (List ℕ)) → past (text s) xs ≡ o → then (then o (figure limit)) g ≡ Some c → length xs ≤ length (text s) + k + n
+      go None h e = let z : ◌≡◌ {A = ℕ} 0 1 = cc in omega arith
+      go (Some ys) h e = here ys h (figure limit ys) refl e
 
 -- keys and values have at most 20 figures, others at most 10
 wide-then : (s : String) (n : ℕ) (xs : List ℕ) (g : Figure → Option Call) → ((f : Figure) → AtMost n f.rest (g f)) → AtMost (length (text s) + 20 + n) xs (then (number_past s wide xs) g)
@@ -127,8 +128,8 @@ format-length xs =
     at-end "))" d.rest _)))))))
 
 or-else : (n m : ℕ) (xs : List ℕ) (o p : Option Call) → m ≤ n → AtMost m xs o → AtMost n xs p → AtMost n xs (or_else o p)
-or-else n m xs none p l f g c e = g c e
-or-else n m xs (some d) p l f g c e = omega (arith, f c e)
+or-else n m xs None p l f g c e = g c e
+or-else n m xs (Some d) p l f g c e = omega (arith, f c e)
 
 pub call_length : (xs : List ℕ) → AtMost 138 xs (call_of xs)
 unfolding call_of
@@ -142,9 +143,9 @@ call_length xs =
     (format-length xs))))))
 
 -- a longer line says none
-pub long-says-none : (xs : List ℕ) → 138 < length xs → call_of xs ≡ none
+pub long-says-none : (xs : List ℕ) → 138 < length xs → call_of xs ≡ None
 long-says-none xs l = go (call_of xs) (call_length xs)
   where
-    go : (o : Option Call) → AtMost 138 xs o → o ≡ none
-    go none h = refl
-    go (some c) h = absurd (omega (arith, h c refl))
+    go : (o : Option Call) → AtMost 138 xs o → o ≡ None
+    go None h = refl
+    go (Some c) h = absurd (omega (arith, h c refl))

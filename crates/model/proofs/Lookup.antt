@@ -2,7 +2,7 @@
 use Prim.Native.Nat.{ℕ, ◌+◌, ◌*◌, ◌≤◌}
 use mathlib.Core.Bool.{true, cond}
 use mathlib.Core.List.{List, [], ◌∷◌}
-use mathlib.Core.Option.{Option, none, some}
+use Rattle.std.specs.Prelude.{Option, None, Some}
 use mathlib.Core.Path.{◌≡◌, refl}
 use native.Mathlib.Omega.{arith}
 use lib.Dec.{eqb}
@@ -63,8 +63,8 @@ module _ (k : ℕ) (p : List ℕ) where
   compared-most = go (searched k p) refl
     where
       go : (o : Option ℕ) → searched k p ≡ o → compared k p ≤ count_of p
-      go (some i) e = let w = first-at _ _ _ _ e in rw (compared_at_lem (some i) e) (omega arith)
-      go none e = rw (compared_at_lem none e) (omega arith)
+      go (Some i) e = let w = first-at _ _ _ _ e in rw (compared_at_lem (Some i) e) (omega arith)
+      go None e = rw (compared_at_lem None e) (omega arith)
 
 -- ---- the reads that an answer tells: none of no page, and never more than the pages
 pub reads_none : (g : Geometry) → reads_for g 0 ≡ 0
@@ -97,11 +97,11 @@ module _ (g : Geometry) (k : ℕ) (f : List ℕ) where
 
   -- ---- a listed key, and any other
   module _ (p : List ℕ) where
-    pub sought-listed : (i : ℕ) → listed_at (listed_of p) k (list_of g p) ≡ some i → sought g k p f ≡ absent (tally 0 0)
+    pub sought-listed : (i : ℕ) → listed_at (listed_of p) k (list_of g p) ≡ Some i → sought g k p f ≡ absent (tally 0 0)
     unfolding sought
     sought-listed i e = rw e
 
-    pub sought-unlisted : listed_at (listed_of p) k (list_of g p) ≡ none → let page = buffer_of g p (page_of g k) in
+    pub sought-unlisted : listed_at (listed_of p) k (list_of g p) ≡ None → let page = buffer_of g p (page_of g k) in
         sought g k p f ≡ hit_in page (tally 0 (compared k page)) buffer (searched k page) (read_through g k f (passing g k p) (tally 0 (compared k page)))
     unfolding sought
     sought-unlisted e = rw e

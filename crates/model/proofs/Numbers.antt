@@ -1,9 +1,10 @@
 -- A number in a text: the figures that the text opens with, the number that they say, and when it is read.
+use Rattle.std.proofs.lemmas.Option.{same_Some}
 use Prim.Native.Nat.{ℕ, ◌+◌, ◌-◌, ◌*◌, ◌≤◌, ◌<◌}
 use mathlib.Core.Bool.{Bool, true, false, cond, ◌&&◌, and-false}
 use mathlib.Core.List.{List, [], ◌∷◌}
 use mathlib.Core.Logic.{⊎_elim}
-use mathlib.Core.Option.{none, some, some-injective}
+use Rattle.std.specs.Prelude.{None, Some}
 use mathlib.Core.Path.{◌≡◌, refl, ap}
 use native.Mathlib.Numerals.{add-one}
 use native.Mathlib.Omega.{arith}
@@ -41,15 +42,15 @@ number-grows (d ∷ ds) n = omega (arith, number-grows ds (10 * n + (d - 48)))
 
 -- ---- the number below a limit that a text opens with
 module _ (limit : ℕ) (xs : List ℕ) where
-  pub figure-not-plain : is_plain (leading xs) ≡ false → figure limit xs ≡ none
+  pub figure-not-plain : is_plain (leading xs) ≡ false → figure limit xs ≡ None
   unfolding figure
   figure-not-plain e = rw e
 
-  pub figure-over : limit ≤ number_from 0 (leading xs) → figure limit xs ≡ none
+  pub figure-over : limit ≤ number_from 0 (leading xs) → figure limit xs ≡ None
   unfolding figure
   figure-over l = rw (le-ltb _ _ l, and-false)
 
-  pub figure-is : (n k : ℕ) → is_plain (leading xs) ≡ true → number_from 0 (leading xs) ≡ n → length (leading xs) ≡ k → n < limit → figure limit xs ≡ some (record { value = n; rest = drop k xs })
+  pub figure-is : (n k : ℕ) → is_plain (leading xs) ≡ true → number_from 0 (leading xs) ≡ n → length (leading xs) ≡ k → n < limit → figure limit xs ≡ Some (record { value = n; rest = drop k xs })
   unfolding figure
   figure-is n k p v l h = rw (p, v, lt-ltb _ _ h, l)
 
@@ -60,13 +61,13 @@ module _ (limit : ℕ) (xs : List ℕ) where
     pub rest : drop (length (leading xs)) xs ≡ f.rest
     pub below : f.value < limit
 
-  pub figure-read : (f : Figure) → figure limit xs ≡ some f → IsFigure f
+  pub figure-read : (f : Figure) → figure limit xs ≡ Some f → IsFigure f
   unfolding figure
   figure-read f e = go (is_plain (leading xs)) (ltb (number_from 0 (leading xs)) limit) refl refl e
     where
-      go : (p q : Bool) → is_plain (leading xs) ≡ p → ltb (number_from 0 (leading xs)) limit ≡ q → cond (p && q) (some (record { value = number_from 0 (leading xs); rest = drop (length (leading xs)) xs })) none ≡ some f → IsFigure f
+      go : (p q : Bool) → is_plain (leading xs) ≡ p → ltb (number_from 0 (leading xs)) limit ≡ q → cond (p && q) (Some (record { value = number_from 0 (leading xs); rest = drop (length (leading xs)) xs })) None ≡ Some f → IsFigure f
       go true true s l e =
-          let its = some-injective _ _ e in
+          let its = same_Some _ _ e in
           let v : number_from 0 (leading xs) ≡ f.value = ap (λ (g : Figure). g.value) its in
           let b : number_from 0 (leading xs) < limit = ltb-true _ _ l in
           record { plain = s; value = v; rest = ap (λ (g : Figure). g.rest) its; below = omega arith }

@@ -3,7 +3,7 @@ use Prim.Native.Nat.{ℕ, ◌+◌, ◌-◌, ◌*◌, ◌^◌, ◌<◌}
 use mathlib.Core.Bool.{true, false}
 use mathlib.Core.Path.{◌≡◌, ◌∙◌}
 use mathlib.Core.List.{List}
-use mathlib.Core.Option.{none, some}
+use Rattle.std.specs.Prelude.{None, Some}
 use native.Mathlib.Omega.{arith}
 use lib.ListN.{length}
 use Rattle.model.specs.declared.Geometry.{Geometry}
@@ -52,7 +52,7 @@ module _ (g : Geometry) (ok : allowed g ≡ true) (p : List ℕ) (long : length 
 
   -- the head is read as one record, changed and put back
   module _ (words : HeadWords (head_of p)) where
-    pub laid-unlisted : (k i : ℕ) → listed_at (listed_of p) k (list_of g p) ≡ some i
+    pub laid-unlisted : (k i : ℕ) → listed_at (listed_of p) k (list_of g p) ≡ Some i
         → Laid g (unlisted g k p) (unlisted_head 1 (head_of p)) (struck i (listed_of p) (list_of g p)) (slot_bits g p) (buffer_of g p)
     unfolding unlisted
     laid-unlisted k i e =
@@ -60,7 +60,7 @@ module _ (g : Geometry) (ok : allowed g ≡ true) (p : List ℕ) (long : length 
         (words-unlisted 1 (head_of p) words))
 
     pub laid-listed : listed_of p < g.list → (k stamp : ℕ)
-        → Laid g (listed_with (some stamp) g k p) (listed_head (head_of p)) (enlisted (listed_of p) k stamp (list_of g p)) (slot_bits g p) (buffer_of g p)
+        → Laid g (listed_with (Some stamp) g k p) (listed_head (head_of p)) (enlisted (listed_of p) k stamp (list_of g p)) (slot_bits g p) (buffer_of g p)
     laid-listed free k stamp =
         laid-head g ok (laid-list g ok (laid g p long) (enlisted (listed_of p) k stamp) (length-enlisted (listed_of p) k stamp (list_of g p) ∙ list-long)) _
         (words-listed (head_of p) words (omega (arith, (sizes g ok).list-max)))
@@ -87,12 +87,12 @@ module _ (g : Geometry) (ok : allowed g ≡ true) (p : List ℕ) (long : length 
 
 -- a key that is not listed stays so, a listed one leaves the list with a put, and makes a del do nothing
 module _ (g : Geometry) (k : ℕ) (p : List ℕ) where
-  pub was-listed : (i n : ℕ) (h : Head) (p' p'' : List ℕ) → listed_at (listed_of p) k (list_of g p) ≡ some i → n ≡ listed_of p → p' ≡ within list_at (list_size g) (struck i n) p
+  pub was-listed : (i n : ℕ) (h : Head) (p' p'' : List ℕ) → listed_at (listed_of p) k (list_of g p) ≡ Some i → n ≡ listed_of p → p' ≡ within list_at (list_size g) (struck i n) p
       → h ≡ unlisted_head 1 (head_of p) → p'' ≡ with_head h p' → p'' ≡ unlisted g k p
   unfolding unlisted
   was-listed i n h p' p'' e en e' eh e'' = rw (e'', eh, e', en, e)
 
-  pub not_listed : listed_at (listed_of p) k (list_of g p) ≡ none → unlisted g k p ≡ p
+  pub not_listed : listed_at (listed_of p) k (list_of g p) ≡ None → unlisted g k p ≡ p
   unfolding unlisted
   not_listed e = rw e
 

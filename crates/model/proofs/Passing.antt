@@ -2,7 +2,7 @@
 use mathlib.Core.Path.{◌≡◌, refl, sym, ◌∙◌, ap}
 use mathlib.Core.Bool.{Bool, true, false, not, ◌&&◌, ◌||◌, or-true}
 use mathlib.Core.List.{List, [], ◌∷◌}
-use mathlib.Core.Option.{Option, none, some}
+use Rattle.std.specs.Prelude.{Option, None, Some}
 use Prim.Native.Nat.{ℕ, zero, suc, ◌+◌, ◌-◌, ◌≤◌, ◌<◌}
 use native.Mathlib.Nat.{add-zero, zero-add}
 use native.Mathlib.Decide.{ℕ_discrete}
@@ -69,7 +69,7 @@ unfolding all any
 all_true f [] h = refl
 all_true f (x ∷ l) h = let here : f x ≡ true = h x (simp (eq-eqb x x refl)) in let rest : all f l ≡ true = all_true f l (λ b m. h b (simp (m, or-true))) in simp (here, rest)
 
-any_found : (f : ℕ → Bool) (k v : ℕ) (l : List Entry) → find k l ≡ some v → f k ≡ true → any (λ e. f e.key) l ≡ true
+any_found : (f : ℕ → Bool) (k v : ℕ) (l : List Entry) → find k l ≡ Some v → f k ≡ true → any (λ e. f e.key) l ≡ true
 unfolding any find
 any_found f k v [] h t = cc
 any_found f k v (e ∷ l) h t =
@@ -96,17 +96,17 @@ bits-same g pages pages' e b = any_below-same _ _ g.pages (λ q l. ap (any (λ x
 
 -- a batch that holds the key passes it
 module _ (g : Geometry) (k : ℕ) (pages : ℕ → List Entry) (q : ℕ) (inside : q < g.pages) where
-  pub passes-found : (v : ℕ) → find k (pages q) ≡ some v → passes_in g pages k ≡ true
+  pub passes-found : (v : ℕ) → find k (pages q) ≡ Some v → passes_in g pages k ≡ true
   unfolding has_bit
   passes-found v h = passes-all g (mixed k) (has_bit g pages)
       ∙ all_true (has_bit g pages) (bits_of g k) (λ b m. any_below-true _ q g.pages inside (any_found (λ j. any (eqb b) (bits_of g j)) k v _ h m))
 
-  pub not-passed : passes_in g pages k ≡ false → find k (pages q) ≡ none
+  pub not-passed : passes_in g pages k ≡ false → find k (pages q) ≡ None
   not-passed h = go (find k (pages q)) refl
     where
-      go : (o : Option ℕ) → find k (pages q) ≡ o → o ≡ none
-      go none e = refl
-      go (some v) e = let t = passes-found v e in cc
+      go : (o : Option ℕ) → find k (pages q) ≡ o → o ≡ None
+      go None e = refl
+      go (Some v) e = let t = passes-found v e in cc
 
 -- ---- one batch of the walk through the live batches, youngest first
 module _ (g : Geometry) (k : ℕ) (p : List ℕ) where

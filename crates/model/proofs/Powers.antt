@@ -2,7 +2,7 @@
 use mathlib.Core.Bool.{Bool, true, false, false≢true}
 use mathlib.Core.Path.{◌≡◌, refl, sym, ◌∙◌, ap}
 use mathlib.Core.Logic.{⊎_elim}
-use mathlib.Core.Option.{Option, none, some}
+use Rattle.std.specs.Prelude.{Option, None, Some}
 use Prim.Native.Nat.{ℕ, suc, ◌+◌, ◌-◌, ◌*◌, ◌/◌, ◌%◌, ◌^◌, ◌≤◌, ◌<◌}
 use native.Mathlib.Nat.{sub-add_cancel, mod_self, one-mul, pow-suc}
 use native.Mathlib.Omega.{arith}
@@ -21,16 +21,16 @@ pub any-one : (n i : ℕ) (test : ℕ → Bool) → any_from n i test ≡ true �
 any-one n i test h = go (first_from n i test) refl
   where
     go : (o : Option ℕ) → first_from n i test ≡ o → (k : ℕ) × First test n i k
-    go (some k) e = (k, first-at test n i k e)
-    go none e = absurd (false≢true (rw e at h))
+    go (Some k) e = (k, first-at test n i k e)
+    go None e = absurd (false≢true (rw e at h))
 
 -- and where this one passes, there is one
 pub one-any : (n i : ℕ) (test : ℕ → Bool) (k : ℕ) → i ≤ k → k < i + n → test k ≡ true → any_from n i test ≡ true
 one-any n i test k l h p = go (first_from n i test) refl
   where
     go : (o : Option ℕ) → first_from n i test ≡ o → any_from n i test ≡ true
-    go (some j) e = rw e
-    go none e = absurd (false≢true (sym (first-none test n i e k l h) ∙ p))
+    go (Some j) e = rw e
+    go None e = absurd (false≢true (sym (first-none test n i e k l h) ∙ p))
 
 pub false-if : (b : Bool) → (b ≡ true → ⊥) → b ≡ false
 false-if true h = absurd (h refl)

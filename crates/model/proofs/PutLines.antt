@@ -1,7 +1,7 @@
 -- A printed put: no byte of its line is 10, so a text is cut behind it, and the line says the put.
 use mathlib.Core.Path.{◌≡◌, refl, ◌∙◌, ap}
 use mathlib.Core.List.{List, [], ◌∷◌, ◌++◌, append_assoc}
-use mathlib.Core.Option.{Option, some}
+use Rattle.std.specs.Prelude.{Option, Some}
 use Prim.Native.Nat.{ℕ, ◌+◌, ◌%◌, ◌^◌, ◌<◌}
 use Prim.Native.String.{String}
 use native.Mathlib.Omega.{arith}
@@ -52,15 +52,15 @@ pub put-cut : (k v : ℕ) → k < 2 ^ 64 → v < 2 ^ 64 → (rest : List ℕ) �
 put-cut k v lk lv rest = ap lines_of (ended k v rest) ∙ cut (put_line_of k v) rest (line-unended k v lk lv)
 
 -- ---- what the line says
-past-text : (bs rest : List ℕ) → past bs (bs ++ rest) ≡ some rest
+past-text : (bs rest : List ℕ) → past bs (bs ++ rest) ≡ Some rest
 unfolding past
 past-text [] rest = refl
 past-text (b ∷ bs) rest = rw (eq-eqb b b refl) (past-text bs rest)
 
-number_past_lem : (s : String) (n : ℕ) (rest : List ℕ) → n < 2 ^ 64 → leading rest ≡ [] → number_past s (2 ^ 64) (text s ++ (decimal n ++ rest)) ≡ some (record { value = n; rest = rest })
-number_past_lem s n rest l none = ap (λ (o : Option (List ℕ)). then o (figure (2 ^ 64))) (past-text (text s) (decimal n ++ rest)) ∙ read_back (2 ^ 64) n rest l (omega arith) none
+number_past_lem : (s : String) (n : ℕ) (rest : List ℕ) → n < 2 ^ 64 → leading rest ≡ [] → number_past s (2 ^ 64) (text s ++ (decimal n ++ rest)) ≡ Some (record { value = n; rest = rest })
+number_past_lem s n rest l None = ap (λ (o : Option (List ℕ)). then o (figure (2 ^ 64))) (past-text (text s) (decimal n ++ rest)) ∙ read_back (2 ^ 64) n rest l (omega arith) None
 
-put-line : (k v : ℕ) → k < 2 ^ 64 → v < 2 ^ 64 → put_line (put_line_of k v) ≡ some (put k v)
+put-line : (k v : ℕ) → k < 2 ^ 64 → v < 2 ^ 64 → put_line (put_line_of k v) ≡ Some (put k v)
 unfolding put_line leading past
 put-line k v lk lv =
     let nested : put_line_of k v ≡ text "(put " ++ (decimal k ++ (text " " ++ (decimal v ++ text ")"))) = simp append_assoc in
@@ -68,6 +68,6 @@ put-line k v lk lv =
     ∙ ap (λ (o : Option Figure). then o (λ k. then (number_past " " (2 ^ 64) k.rest) (λ v. ending ")" v.rest (put k.value v.value)))) (number_past_lem "(put " k (text " " ++ (decimal v ++ text ")")) lk refl)
     ∙ ap (λ (o : Option Figure). then o (λ v. ending ")" v.rest (put k v.value))) (number_past_lem " " v (text ")") lv refl)
 
-pub put-said : (k v : ℕ) → k < 2 ^ 64 → v < 2 ^ 64 → call_of (put_line_of k v) ≡ some (put k v)
+pub put-said : (k v : ℕ) → k < 2 ^ 64 → v < 2 ^ 64 → call_of (put_line_of k v) ≡ Some (put k v)
 unfolding call_of
 put-said k v lk lv = rw (put-line k v lk lv)

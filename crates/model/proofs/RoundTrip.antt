@@ -2,7 +2,7 @@
 use mathlib.Core.Path.{◌≡◌, refl, ◌∙◌, ap}
 use mathlib.Core.Bool.{true}
 use mathlib.Core.List.{List, [], ◌∷◌, ◌++◌}
-use mathlib.Core.Option.{some}
+use Rattle.std.specs.Prelude.{Some}
 use Prim.Native.Nat.{ℕ, zero, suc, ◌+◌, ◌-◌, ◌*◌, ◌%◌, ◌^◌, ◌≤◌, ◌<◌}
 use native.Mathlib.Omega.{arith}
 use lib.ListN.{length}
@@ -68,9 +68,9 @@ decimal-says : (n : ℕ) → n < 10 ^ 20 → number_from 0 (decimal n) ≡ n
 decimal-says = by-figures (λ n ds. number_from 0 ds ≡ n) (λ n l. rw (number-last n 0) (omega arith)) (λ n ds g e. rw (number_append, e, number-last) (omega arith)) 19
 
 -- the figures of n, before a text that opens with none, are read as n, and that text is left
-pub read_back : (limit n : ℕ) (rest : List ℕ) → n < limit → limit ≤ 2 ^ 64 → leading rest ≡ [] → figure limit (decimal n ++ rest) ≡ some (record { value = n; rest = rest })
-read_back limit n rest l small none =
+pub read_back : (limit n : ℕ) (rest : List ℕ) → n < limit → limit ≤ 2 ^ 64 → leading rest ≡ [] → figure limit (decimal n ++ rest) ≡ Some (record { value = n; rest = rest })
+read_back limit n rest l small None =
     let n-small : n < 10 ^ 20 = omega arith in
-    let its : leading (decimal n ++ rest) ≡ decimal n = leading-all (decimal n) rest (decimal-all n n-small) none in
+    let its : leading (decimal n ++ rest) ≡ decimal n = leading-all (decimal n) rest (decimal-all n n-small) None in
     figure-is limit (decimal n ++ rest) n (length (decimal n)) (rw its (decimal-plain n n-small)) (rw its (decimal-says n n-small)) (ap length its) l
     ∙ rw drop-append_seam

@@ -2,7 +2,7 @@
 use mathlib.Core.Path.{◌≡◌, refl, ◌∙◌}
 use mathlib.Core.Logic.{⊎_elim}
 use mathlib.Core.Bool.{Bool, true, false}
-use mathlib.Core.Option.{Option, none, some}
+use Rattle.std.specs.Prelude.{Option, None, Some}
 use Prim.Native.Nat.{ℕ, zero, suc, ◌+◌, ◌-◌, ◌≤◌, ◌<◌}
 use native.Mathlib.Nat.{add-zero}
 use native.Mathlib.Omega.{arith}
@@ -22,7 +22,7 @@ also P i m p f k l h = ⊎_elim (λ (b : i < k). f k (omega arith) h) (λ (g : k
 
 module _ (test : ℕ → Bool) where
   -- a loop that runs i up to `end` has the answer `first_from (end - i) i test` still to give
-  pub first-here : (end i : ℕ) → i < end → test i ≡ true → first_from (end - i) i test ≡ some i
+  pub first-here : (end i : ℕ) → i < end → test i ≡ true → first_from (end - i) i test ≡ Some i
   unfolding first_from
   first-here end i l h = let e : end - i ≡ suc (end - (i + 1)) = omega arith in rw (e, h)
 
@@ -30,7 +30,7 @@ module _ (test : ℕ → Bool) where
   unfolding first_from
   first_next end i l h = let e : end - i ≡ suc (end - (i + 1)) = omega arith in rw (e, h)
 
-  pub first-end : (end i : ℕ) → end ≤ i → first_from (end - i) i test ≡ none
+  pub first-end : (end i : ℕ) → end ≤ i → first_from (end - i) i test ≡ None
   unfolding first_from
   first-end end i l = let e : end - i ≡ 0 = omega arith in rw e
 
@@ -64,22 +64,22 @@ module _ (test : ℕ → Bool) where
       go false h = h ∙ any_next 0 i h
 
   -- what an answer tells
-  pub first-at : (n i j : ℕ) → first_from n i test ≡ some j → First test n i j
+  pub first-at : (n i j : ℕ) → first_from n i test ≡ Some j → First test n i j
   unfolding first_from
   first-at zero i j e = let z : ◌≡◌ {A = ℕ} 0 1 = cc in absurd (omega arith)
   first-at (suc n) i j e = go (test i) refl (first-at n (i + 1) j)
     where
-      go : (b : Bool) → test i ≡ b → (first_from n (i + 1) test ≡ some j → First test n (i + 1) j) → First test (suc n) i j
-      go true q next = let s : some i ≡ some j = rw q at e in let d : i ≡ j = cc in record { low = omega arith; high = omega arith; passed = rw (← d) q; earlier = λ k l h. absurd (omega arith) }
+      go : (b : Bool) → test i ≡ b → (first_from n (i + 1) test ≡ Some j → First test n (i + 1) j) → First test (suc n) i j
+      go true q next = let s : Some i ≡ Some j = rw q at e in let d : i ≡ j = cc in record { low = omega arith; high = omega arith; passed = rw (← d) q; earlier = λ k l h. absurd (omega arith) }
       go false q next = let r = next (rw q at e) in record { low = omega arith; high = omega arith; passed = r.passed; earlier = also (λ k. test k ≡ false) i j q r.earlier }
 
-  pub first-none : (n i : ℕ) → first_from n i test ≡ none → (k : ℕ) → i ≤ k → k < i + n → test k ≡ false
+  pub first-none : (n i : ℕ) → first_from n i test ≡ None → (k : ℕ) → i ≤ k → k < i + n → test k ≡ false
   unfolding first_from
   first-none zero i e = λ k l h. absurd (omega arith)
   first-none (suc n) i e = go (test i) refl (first-none n (i + 1))
     where
-      go : (b : Bool) → test i ≡ b → (first_from n (i + 1) test ≡ none → (k : ℕ) → i + 1 ≤ k → k < i + 1 + n → test k ≡ false) → (k : ℕ) → i ≤ k → k < i + suc n → test k ≡ false
-      go true q next = let s : ◌≡◌ {A = Option ℕ} (some i) none = rw q at e in let z : ◌≡◌ {A = ℕ} 0 1 = cc in absurd (omega arith)
+      go : (b : Bool) → test i ≡ b → (first_from n (i + 1) test ≡ None → (k : ℕ) → i + 1 ≤ k → k < i + 1 + n → test k ≡ false) → (k : ℕ) → i ≤ k → k < i + suc n → test k ≡ false
+      go true q next = let s : ◌≡◌ {A = Option ℕ} (Some i) None = rw q at e in let z : ◌≡◌ {A = ℕ} 0 1 = cc in absurd (omega arith)
       go false q next = also (λ k. test k ≡ false) i (i + suc n) q (λ k l h. next (rw q at e) k l (omega arith))
 
 -- tests that agree on the range have one answer

@@ -1,7 +1,7 @@
 -- What a line prints and leaves, and a session's lines, piece by piece.
 use Prim.Native.Nat.{ℕ, ◌≤◌}
 use mathlib.Core.Path.{◌≡◌, refl}
-use mathlib.Core.Option.{none, some}
+use Rattle.std.specs.Prelude.{None, Some}
 use native.Mathlib.Omega.{arith}
 use lib.ListN.{length, length-append}
 use Rattle.model.specs.Text.{text}
@@ -22,19 +22,19 @@ length-answer (shown s) = omega arith
 
 -- ---- a line that says a call, and one that says none
 module _ (line : List ℕ) (a : Areas) where
-  pub prints-answer : (c : Call) → call_of line ≡ some c → line_prints line a ≡ answer_text (reply a c)
+  pub prints-answer : (c : Call) → call_of line ≡ Some c → line_prints line a ≡ answer_text (reply a c)
   unfolding line_prints
   prints-answer c e = rw e
 
-  pub leaves_after : (c : Call) → call_of line ≡ some c → line_leaves line a ≡ after a c
+  pub leaves_after : (c : Call) → call_of line ≡ Some c → line_leaves line a ≡ after a c
   unfolding line_leaves
   leaves_after c e = rw e
 
-  pub prints-bad : call_of line ≡ none → line_prints line a ≡ text "(bad)\n"
+  pub prints-bad : call_of line ≡ None → line_prints line a ≡ text "(bad)\n"
   unfolding line_prints
   prints-bad e = rw e
 
-  pub leaves-same : call_of line ≡ none → line_leaves line a ≡ a
+  pub leaves-same : call_of line ≡ None → line_leaves line a ≡ a
   unfolding line_leaves
   leaves-same e = rw e
 

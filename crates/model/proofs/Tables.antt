@@ -2,7 +2,7 @@
 use mathlib.Core.Path.{◌≡◌, refl, sym, ◌∙◌, ap}
 use mathlib.Core.Bool.{Bool, true, false, cond, ◌&&◌, ◌||◌}
 use mathlib.Core.List.{List, [], ◌∷◌, ◌++◌}
-use mathlib.Core.Option.{Option, none, some}
+use Rattle.std.specs.Prelude.{Option, None, Some}
 use Prim.Native.Nat.{ℕ, zero, suc, ◌≤◌}
 use native.Mathlib.Omega.{arith}
 use lib.Dec.{eqb}
@@ -21,8 +21,8 @@ pub record Entry : Type 0 where
 
 -- what the first entry with this key holds
 unfoldable pub find : ℕ → List Entry → Option ℕ
-find k [] = none
-find k (e ∷ l) = cond (eqb k e.key) (some e.val) (find k l)
+find k [] = None
+find k (e ∷ l) = cond (eqb k e.key) (Some e.val) (find k l)
 
 -- the new value in the first entry with this key; without one, a new last entry
 unfoldable pub store : ℕ → ℕ → List Entry → List Entry
@@ -42,23 +42,23 @@ strike test (e ∷ l) = cond (test e.val) (strike test l) (e ∷ strike test l)
 -- no key twice
 abbrev pub Distinct : List Entry → Type 0
 Distinct [] = Unit {0}
-Distinct (e ∷ l) = (find e.key l ≡ none) × Distinct l
+Distinct (e ∷ l) = (find e.key l ≡ None) × Distinct l
 
 -- what is left of a number that is struck out if it passes the test
 abbrev pub unless : (ℕ → Bool) → Option ℕ → Option ℕ
-unless test none = none
-unless test (some n) = cond (test n) none (some n)
+unless test None = None
+unless test (Some n) = cond (test n) None (Some n)
 
 -- ---- store
-pub find-store-same : (k v : ℕ) (l : List Entry) → find k (store k v l) ≡ some v
+pub find-store-same : (k v : ℕ) (l : List Entry) → find k (store k v l) ≡ Some v
 unfolding find store
 find-store-same k v [] = rw (eq-eqb k k refl)
 find-store-same k v (e ∷ l) = either (eqb k e.key) (λ h. simp (h, eq-eqb k k refl)) (λ h. simp (h, find-store-same k v l))
 
-pub store-new : (k v : ℕ) (l : List Entry) → find k l ≡ none → store k v l ≡ l ++ (record { key = k; val = v } ∷ [])
+pub store-new : (k v : ℕ) (l : List Entry) → find k l ≡ None → store k v l ≡ l ++ (record { key = k; val = v } ∷ [])
 unfolding find store
 store-new k v [] h = refl
-store-new k v (e ∷ l) h = either (eqb k e.key) (λ w. let z : some e.val ≡ none = simp w at h in cc) (λ w. simp (w, store-new k v l (simp w at h)))
+store-new k v (e ∷ l) h = either (eqb k e.key) (λ w. let z : Some e.val ≡ None = simp w at h in cc) (λ w. simp (w, store-new k v l (simp w at h)))
 
 pub length-store : (k v : ℕ) (l : List Entry) → length (store k v l) ≡ cond (is_some (find k l)) (length l) (suc (length l))
 unfolding find store
@@ -68,15 +68,15 @@ length-store k v (e ∷ l) =
     (λ h. either (is_some (find k l)) (λ w. simp (h, w, length-store k v l)) (λ w. simp (h, w, length-store k v l)))
 
 -- ---- erase
-pub find-erase-same : (k : ℕ) (l : List Entry) → Distinct l → find k (erase k l) ≡ none
+pub find-erase-same : (k : ℕ) (l : List Entry) → Distinct l → find k (erase k l) ≡ None
 unfolding find erase
 find-erase-same k [] d = refl
 find-erase-same k (e ∷ l) d = either (eqb k e.key) (λ h. simp h (rw (eqb-true k e.key h) d.0)) (λ h. simp (h, find-erase-same k l d.1))
 
-pub erase-none : (k : ℕ) (l : List Entry) → find k l ≡ none → erase k l ≡ l
+pub erase-none : (k : ℕ) (l : List Entry) → find k l ≡ None → erase k l ≡ l
 unfolding find erase
 erase-none k [] h = refl
-erase-none k (e ∷ l) h = either (eqb k e.key) (λ w. let z : some e.val ≡ none = simp w at h in cc) (λ w. simp (w, erase-none k l (simp w at h)))
+erase-none k (e ∷ l) h = either (eqb k e.key) (λ w. let z : Some e.val ≡ None = simp w at h in cc) (λ w. simp (w, erase-none k l (simp w at h)))
 
 pub length-erase : (k : ℕ) (l : List Entry) → length (erase k l) ≤ length l
 unfolding erase
@@ -103,7 +103,7 @@ find-strike test k (e ∷ l) d =
     either (eqb k e.key)
     (λ h.
     either (test e.val)
-    (λ w. let z : find k l ≡ none = rw (eqb-true k e.key h) d.0 in simp (h, w, find-strike test k l d.1, z))
+    (λ w. let z : find k l ≡ None = rw (eqb-true k e.key h) d.0 in simp (h, w, find-strike test k l d.1, z))
     (λ w. simp (h, w)))
     (λ h. either (test e.val) (λ w. simp (h, w, find-strike test k l d.1)) (λ w. simp (h, w, find-strike test k l d.1)))
 

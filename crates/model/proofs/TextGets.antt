@@ -1,7 +1,7 @@
 -- Where a text of a partition is accepted, so is a get of each of its keys: what 12 and 13 judge there is all judged by the text.
 use mathlib.Core.Bool.{true, false, not}
 use mathlib.Core.List.{List}
-use mathlib.Core.Option.{Option, none, some}
+use Rattle.std.specs.Prelude.{Option, None, Some}
 use mathlib.Core.Path.{◌≡◌, refl, sym, ◌∙◌, ap}
 use Prim.Native.Nat.{ℕ, zero, suc, ◌+◌, ◌-◌, ◌≤◌, ◌<◌}
 use native.Mathlib.Omega.{arith}
@@ -31,7 +31,7 @@ use Rattle.model.proofs.Calls.{Opened, opens, opened, later-passed, checks-get, 
 
 -- ---- each page of a live batch is the one expected
 module _ (g : Geometry) (t : ℕ) (p f : List ℕ) (batches : some_batch_fails g t p f ≡ false) where
-  none-fails : (i : ℕ) → i < live_of p → failed_page g t f (live_batch (head_of p) i) ≡ none
+  none-fails : (i : ℕ) → i < live_of p → failed_page g t f (live_batch (head_of p) i) ≡ None
   unfolding some_batch_fails
   none-fails i l = none_found _ (first-none (λ j. is_some (failed_page g t f (live_batch (head_of p) j))) (live_of p) 0 (none_found _ batches) i (omega arith) (omega arith))
 
@@ -39,13 +39,13 @@ module _ (g : Geometry) (t : ℕ) (p f : List ℕ) (batches : some_batch_fails g
   live-expected n q e l =
       let b = live-bounds (head_of p) n e in
       let same : live_batch (head_of p) (n - oldest (head_of p)) ≡ n = omega (arith, b) in
-      let fails : failed_page g t f n ≡ none = rw same at (none-fails (n - oldest (head_of p)) (omega (arith, b))) in
+      let fails : failed_page g t f n ≡ None = rw same at (none-fails (n - oldest (head_of p)) (omega (arith, b))) in
       not-false _ (first-none (λ j. not (expected g t n j (batch_page g t f n j))) g.pages 0 fails q (omega arith) (omega arith))
 
 -- ---- so a get that reads them is not refused
 later-refused : (page : List ℕ) (cost : Tally) (place : Place) (o : Option ℕ) (later : Answer) (m r : ℕ) → hit_in page cost place o later ≡ refused m r → later ≡ refused m r
-later-refused page cost place none later m r e = e
-later-refused page cost place (some i) later m r e = let z : ◌≡◌ {A = ℕ} 0 1 = cc in absurd (omega arith)
+later-refused page cost place None later m r e = e
+later-refused page cost place (Some i) later m r e = let z : ◌≡◌ {A = ℕ} 0 1 = cc in absurd (omega arith)
 
 module _ (g : Geometry) (k : ℕ) (p f : List ℕ) (flushed : live_of p ≤ flushes_of p)
     (whole : (n : ℕ) → is_live (head_of p) n ≡ true → expected g (partition_of g k) n (page_of g k) (batch_page g (partition_of g k) f n (page_of g k)) ≡ true) (m r : ℕ) where
@@ -64,15 +64,15 @@ module _ (g : Geometry) (k : ℕ) (p f : List ℕ) (flushed : live_of p ≤ flus
   sought-accepted x = go (listed_at (listed_of p) k (list_of g p)) refl
     where
       go : (o : Option ℕ) → listed_at (listed_of p) k (list_of g p) ≡ o → ⊥
-      go (some i) e = let a : absent (tally 0 0) ≡ refused m r = sym (sought-listed g k f p i e) ∙ x in let z : ◌≡◌ {A = ℕ} 0 1 = cc in omega arith
-      go none e =
+      go (Some i) e = let a : absent (tally 0 0) ≡ refused m r = sym (sought-listed g k f p i e) ∙ x in let z : ◌≡◌ {A = ℕ} 0 1 = cc in omega arith
+      go None e =
           let page : List ℕ = buffer_of g p (page_of g k) in
           let cost : Tally = tally 0 (compared k page) in
           through (live_of p) (flushes_of p) cost (omega arith) (omega (arith, flushed))
           (rw (passing-from g k p) at (later-refused page cost buffer (searched k page) (read_through g k f (passing g k p) cost) m r (sym (sought-unlisted g k f p e) ∙ x)))
 
 -- ---- what an accepted text gives
-module _ (a : Areas) (t room : ℕ) (passed : checks a (text t room) ≡ none) where
+module _ (a : Areas) (t room : ℕ) (passed : checks a (text t room) ≡ None) where
   abbrev g : Geometry
   g = geometry_in a
 
@@ -92,7 +92,7 @@ module _ (a : Areas) (t room : ℕ) (passed : checks a (text t room) ≡ none) w
   module _ (k : ℕ) (own : partition_of g k ≡ t) where
     pub get-seeks : reply a (get k) ≡ sought g k p a.flash
     get-seeks =
-        let passes : get_checks g k (partition g (partition_of g k) a.memory) ≡ none = rw own (get-passes g k p (fits-key g p k fits.2 (pages-fit g p fits.3 (page_of g k) (text-page k)))) in
+        let passes : get_checks g k (partition g (partition_of g k) a.memory) ≡ None = rw own (get-passes g k p (fits-key g p k fits.2 (pages-fit g p fits.3 (page_of g k) (text-page k)))) in
         reply-accepted a (get k) (checks-get a g refl (opens a fits.0) k ∙ passes) ∙ result-get a g refl k ∙ ap (λ (u : ℕ). sought g k (partition g u a.memory) a.flash) own
 
     pub get-accepted : (m r : ℕ) → reply a (get k) ≡ refused m r → ⊥

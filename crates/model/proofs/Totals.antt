@@ -3,7 +3,7 @@ use Prim.Native.Nat.{ℕ, ◌+◌, ◌^◌, ◌<◌}
 use mathlib.Core.Bool.{true}
 use mathlib.Core.Path.{◌≡◌, refl, ◌∙◌, ap}
 use mathlib.Core.List.{List}
-use mathlib.Core.Option.{Option, none, some}
+use Rattle.std.specs.Prelude.{Option, None, Some}
 use lib.ListN.{length}
 use Rattle.model.specs.declared.Geometry.{Geometry}
 use Rattle.model.specs.Geometry.{allowed, stride}
@@ -27,12 +27,12 @@ module _ (g : Geometry) (ok : allowed g ≡ true) (p : List ℕ) (long : length 
     total-unlisted k = go (listed_at (listed_of p) k (list_of g p)) refl
       where
         go : (o : Option ℕ) → listed_at (listed_of p) k (list_of g p) ≡ o → total_of (unlisted g k p) ≡ total_of p
-        go none e = ap total_of (not_listed g k p e)
-        go (some i) e = ap (λ (h : Head). h.total) (laid-unlisted g ok p long words k i e).head
+        go None e = ap total_of (not_listed g k p e)
+        go (Some i) e = ap (λ (h : Head). h.total) (laid-unlisted g ok p long words k i e).head
 
-    pub total-listed : (o : Option ℕ) → ((n : ℕ) → o ≡ some n → listed_of p < g.list) → (k : ℕ) → total_of (listed_with o g k p) ≡ total_of p
-    total-listed none free k = refl
-    total-listed (some n) free k = ap (λ (h : Head). h.total) (laid-listed g ok p long words (free n refl) k n).head
+    pub total-listed : (o : Option ℕ) → ((n : ℕ) → o ≡ Some n → listed_of p < g.list) → (k : ℕ) → total_of (listed_with o g k p) ≡ total_of p
+    total-listed None free k = refl
+    total-listed (Some n) free k = ap (λ (h : Head). h.total) (laid-listed g ok p long words (free n refl) k n).head
 
     pub total-flushed : (t : ℕ) → flushes_of p + 1 < 2 ^ 32 → total_of (flushed g t p) ≡ total_of p
     total-flushed t more = ap (λ (h : Head). h.total) (laid-flushed g ok p long words t more).head ∙ total-after g p

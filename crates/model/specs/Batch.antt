@@ -1,6 +1,5 @@
 -- A batch in flash: its pages and its entries; and what goes with a batch that a flush pushes out or a drop takes off.
-use Rattle.std.specs.Prelude.{ℕ, zero, suc, ◌+◌, ◌-◌, Bool, cond, not, List, leb}
-use Rattle.std.proofs.Math.Option.{Option, none}
+use Rattle.std.specs.Prelude.{ℕ, zero, suc, ◌+◌, ◌-◌, Bool, cond, not, List, leb, Option, None}
 use Rattle.model.specs.Bytes.{mid, within}
 use Rattle.model.specs.Search.{first_from}
 use Rattle.model.specs.Geometry.{list_at, list_size, slot_page_at}
@@ -36,7 +35,7 @@ pushes_out g h = leb g.kept h.live
 
 -- the first of its heads that is not the one expected
 unfoldable pub failed_head : Geometry → ℕ → List ℕ → List ℕ → Option ℕ
-failed_head g t p f = cond (pushes_out g (head_of p)) (failed_page g t f (oldest (head_of p))) none
+failed_head g t p f = cond (pushes_out g (head_of p)) (failed_page g t f (oldest (head_of p))) None
 
 -- the entries that leave with it
 unfoldable pub leaving : Geometry → ℕ → List ℕ → List ℕ → ℕ

@@ -1,6 +1,5 @@
 -- "The six calls", count, text and drop: what each answers and leaves, on areas of any length and content, and a whole list of them.
-use Rattle.std.specs.Prelude.{ℕ, cond, List, [], ◌∷◌, length}
-use Rattle.std.proofs.Math.Option.{Option, none, some}
+use Rattle.std.specs.Prelude.{ℕ, cond, List, [], ◌∷◌, length, Option, None, Some}
 use Rattle.std.proofs.lemmas.List.Edits.{sets}
 use Rattle.model.specs.Bytes.{within}
 use Rattle.model.specs.Geometry.{stride, partition_at}
@@ -71,8 +70,8 @@ result a (text t room) = done (length (text_in a t))
 result a (drop t) = done 0
 
 abbrev pub reply_if : Option Refusal → Answer → Answer
-reply_if (some r) x = refused r.number r.reads
-reply_if none x = x
+reply_if (Some r) x = refused r.number r.reads
+reply_if None x = x
 
 -- what a call answers
 unfoldable pub reply : Areas → Call → Answer

@@ -1,7 +1,6 @@
 -- The list of deleted keys, BufferHash's delete list: places of 16 bytes (key 8, stamp 4, zero 4), of which the first n are used.
 -- A stamp is the number of the youngest batch that could hold the key when it was deleted.
-use Rattle.std.specs.Prelude.{ℕ, ◌+◌, ◌*◌, Bool, List, eqb}
-use Rattle.std.proofs.Math.Option.{Option}
+use Rattle.std.specs.Prelude.{ℕ, ◌+◌, ◌*◌, Bool, List, eqb, Option}
 use Rattle.model.specs.Bytes.{word, write}
 use Rattle.model.specs.Records.{first_record, staying, closed_up}
 

@@ -1,6 +1,5 @@
 -- Document 02: "drop, `(drop 0)` answered `(ok 0)`, takes a partition's oldest live batch off the live number, its entries off the total and the list entries stamped with it; flash and filters stay."
-use Rattle.std.specs.Prelude.{ℕ, not, List, eqb, ltb}
-use Rattle.std.proofs.Math.Option.{Option, none}
+use Rattle.std.specs.Prelude.{ℕ, not, List, eqb, ltb, Option, None}
 use Rattle.model.specs.Geometry.{partitions}
 use Rattle.model.specs.Partition.{Head, head_of, lowered_head, unlisted_head, totalled_head, with_head, flushes_of, listed_of, live_of, oldest}
 use Rattle.model.specs.Batch.{failed_page, batch_entries, delisted, delistings}
@@ -19,7 +18,7 @@ drop_checks g t p f =
     (refuse_if (head_overfull g (head_of p)) 12
     (refuse_if (eqb (live_of p) 0) 23
     (refuse_head (failed_page g t f (oldest (head_of p)))
-    (refuse_if (total_out g 0 (oldest_entries g t p f) (head_of p)) 12 none))))
+    (refuse_if (total_out g 0 (oldest_entries g t p f) (head_of p)) 12 None))))
 
 -- the head with one live batch less, which had so many entries
 unfoldable pub head_dropped : Geometry → ℕ → List ℕ → Head

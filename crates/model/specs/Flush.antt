@@ -1,7 +1,6 @@
 -- "flush of partition t: batch F + 1 is written whole, its pages being the buffer pages with that flush number; no other flash byte changes. The slot's filter is made new. List entries stamped F + 1 − K are removed. The buffer is emptied as by format and F rises by 1."
 -- Document 02: "A flush that drops a batch first reads the heads of that batch's Q pages in order." "However pages now get to flash, write each from the buffer into its slot directly."
-use Rattle.std.specs.Prelude.{ℕ, zero, suc, ◌+◌, Bool, not, ◌||◌, List, eqb, ltb}
-use Rattle.std.proofs.Math.Option.{Option, none}
+use Rattle.std.specs.Prelude.{ℕ, zero, suc, ◌+◌, Bool, not, ◌||◌, List, eqb, ltb, Option, None}
 use Rattle.model.specs.Bytes.{within}
 use Rattle.model.specs.Search.{any_from}
 use Rattle.model.specs.Geometry.{partitions, filter_at, filter_size, slot_page_at}
@@ -23,7 +22,7 @@ unfoldable pub due_checks : Geometry → ℕ → ℕ → List ℕ → List ℕ �
 due_checks g t more p f =
     refuse_if (eqb (flushes_of p) last_flush) 16
     (refuse_head (failed_head g t p f)
-    (refuse_if (total_out g more (leaving g t p f) (head_of p)) 12 none))
+    (refuse_if (total_out g more (leaving g t p f) (head_of p)) 12 None))
 
 -- 4, 12, 15, 16, 13, 12, for partition t with the bytes p, and flash
 unfoldable pub flush_checks : Geometry → ℕ → List ℕ → List ℕ → Option Refusal
@@ -53,7 +52,7 @@ flush_in g t f p = totalled 0 (leaving g t p f) (flushed g t p)
 unfoldable pub page_checks : Geometry → ℕ → ℕ → List ℕ → Option Refusal
 page_checks g t q p =
     refuse_if (not (ltb t (partitions g)) || not (ltb q g.pages)) 4
-    (refuse_if (eqb (flushes_of p) last_flush) 16 none)
+    (refuse_if (eqb (flushes_of p) last_flush) 16 None)
 
 -- flash with page q of the batch written: "the slot's page then holds the buffer page's bytes with the new flush number", whatever it counts, and every other byte stays
 unfoldable pub with_batch_page : Geometry → ℕ → List ℕ → ℕ → List ℕ → List ℕ

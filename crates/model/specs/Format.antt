@@ -1,6 +1,5 @@
 -- "format writes the opening numbers, zero in the rest of the needed memory, and page and partition numbers in buffer pages. Flash and surplus bytes are untouched."
-use Rattle.std.specs.Prelude.{ℕ, zero, suc, not, List, ltb, length}
-use Rattle.std.proofs.Math.Option.{Option, none}
+use Rattle.std.specs.Prelude.{ℕ, zero, suc, not, List, ltb, length, Option, None}
 use Rattle.std.proofs.lemmas.List.Edits.{sets}
 use Rattle.model.specs.Bytes.{zeros, within}
 use Rattle.model.specs.Geometry.{allowed, partitions, stride, partition_at, buffer_at, memory_need, flash_need}
@@ -15,7 +14,7 @@ unfoldable pub format_checks : Geometry → Areas → Option Refusal
 format_checks g a =
     refuse_if (not (allowed g)) 1
     (refuse_if (ltb (length a.memory) (memory_need g)) 2
-    (refuse_if (ltb (length a.flash) (flash_need g)) 3 none))
+    (refuse_if (ltb (length a.flash) (flash_need g)) 3 None))
 
 -- partition t with its first q buffer pages emptied
 unfoldable pub emptied_pages : Geometry → ℕ → ℕ → List ℕ → List ℕ

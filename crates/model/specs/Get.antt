@@ -1,6 +1,5 @@
 -- "get answers none with 0 reads for a listed key. Then it searches the buffer page. Of the live batches whose filter passes it reads the key's page: it goes through them youngest first and stops at the first page entry with the key. A found answer holds the value, the reads and where it was: buffer, or batch by number. Reads are the pages read."
-use Rattle.std.specs.Prelude.{ℕ, cond, List, [], ◌∷◌}
-use Rattle.std.proofs.Math.Option.{Option, none, some}
+use Rattle.std.specs.Prelude.{ℕ, cond, List, [], ◌∷◌, Option, None, Some}
 use Rattle.model.specs.Keys.{partition_of, page_of}
 use Rattle.model.specs.Page.{value_at, searched, compared, expected}
 use Rattle.model.specs.DeleteList.{listed_at}
@@ -12,12 +11,12 @@ use Rattle.model.specs.declared.Geometry.{Geometry}
 
 -- 12, for the key's partition with the bytes p
 unfoldable pub get_checks : Geometry → ℕ → List ℕ → Option Refusal
-get_checks g k p = refuse_if (key_overfull g k p) 12 none
+get_checks g k p = refuse_if (key_overfull g k p) 12 None
 
 -- what a search of a page answers, and otherwise
 abbrev pub hit_in : List ℕ → Tally → Place → Option ℕ → Answer → Answer
-hit_in page c place (some i) later = found (value_at page i) c place
-hit_in page c place none later = later
+hit_in page c place (Some i) later = found (value_at page i) c place
+hit_in page c place None later = later
 
 -- the reads that an answer tells of so many pages: one each
 unfoldable pub reads_for : Geometry → ℕ → ℕ
@@ -39,8 +38,8 @@ read_through g k f (n ∷ ns) c =
 
 -- A listed key costs nothing. The buffer page is searched first, and is no read.
 abbrev pub sought_in : Option ℕ → Geometry → ℕ → List ℕ → List ℕ → Answer
-sought_in (some i) g k p f = absent (tally 0 0)
-sought_in none g k p f =
+sought_in (Some i) g k p f = absent (tally 0 0)
+sought_in None g k p f =
     let page : List ℕ = buffer_of g p (page_of g k) in
     let cost : Tally = tally 0 (compared k page) in
     hit_in page cost buffer (searched k page) (read_through g k f (passing g k p) cost)

@@ -1,7 +1,6 @@
 -- "A page: count 2, page number 2, partition 2, zero 2, flush number 4, zero 4, then E entries, used ones first, the rest zero."
 -- An entry has 8 key and 8 value bytes. Record 0 of a page is its head, so its used entries are the records 1 to count.
-use Rattle.std.specs.Prelude.{ℕ, ◌+◌, ◌-◌, ◌*◌, Bool, cond, ◌&&◌, List, eqb, leb, length}
-use Rattle.std.proofs.Math.Option.{Option, none, some}
+use Rattle.std.specs.Prelude.{ℕ, ◌+◌, ◌-◌, ◌*◌, Bool, cond, ◌&&◌, List, eqb, leb, length, Option, None, Some}
 use Rattle.model.specs.Bytes.{word, write, zeros}
 use Rattle.model.specs.Search.{is_some}
 use Rattle.model.specs.Records.{first_record, closed_up}
@@ -20,8 +19,8 @@ searched k p = first_record k (count_of p) 1 p
 
 -- The entries that this compares: up to the one with the key, or all used ones (02, job 8). A page's places are counted from 0, so the entry that is record i is at place i − 1.
 abbrev pub compared_at : Option ℕ → List ℕ → ℕ
-compared_at (some i) p = i
-compared_at none p = count_of p
+compared_at (Some i) p = i
+compared_at None p = count_of p
 
 unfoldable pub compared : ℕ → List ℕ → ℕ
 compared k p = compared_at (searched k p) p
@@ -37,8 +36,8 @@ removed i p = write 2 (count_of p - 1) 0 (closed_up (eqb i) (count_of p) 1 p)
 
 -- A key in its page gets the new value in its first place there; otherwise it is appended.
 abbrev pub stored_at : Option ℕ → ℕ → ℕ → List ℕ → List ℕ
-stored_at (some i) k v p = replaced i v p
-stored_at none k v p = appended k v p
+stored_at (Some i) k v p = replaced i v p
+stored_at None k v p = appended k v p
 
 unfoldable pub stored : ℕ → ℕ → List ℕ → List ℕ
 stored k v p = stored_at (searched k p) k v p
@@ -49,8 +48,8 @@ added k p = cond (is_some (searched k p)) 0 1
 
 -- The key's first entry leaves the page, later used ones moving down.
 abbrev pub removed_at : Option ℕ → List ℕ → List ℕ
-removed_at (some i) p = removed i p
-removed_at none p = p
+removed_at (Some i) p = removed i p
+removed_at None p = p
 
 unfoldable pub without : ℕ → List ℕ → List ℕ
 without k p = removed_at (searched k p) p

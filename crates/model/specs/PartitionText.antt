@@ -1,7 +1,6 @@
 -- Document 02: "For one partition, write `(put key value)` for each key that a get finds, with the value found. The order is oldest batch first, buffer last, and within a batch by page and place of the entry that answers."
 -- A line stands exactly where a get of its key would answer with that very entry.
-use Rattle.std.specs.Prelude.{ℕ, zero, suc, ◌+◌, Bool, true, false, cond, not, ◌&&◌, List, [], ◌++◌, eqb, ltb, length}
-use Rattle.std.proofs.Math.Option.{Option, none, some}
+use Rattle.std.specs.Prelude.{ℕ, zero, suc, ◌+◌, Bool, true, false, cond, not, ◌&&◌, List, [], ◌++◌, eqb, ltb, length, Option, None, Some}
 use Rattle.model.specs.Search.{is_some, any_from}
 use Rattle.model.specs.Geometry.{partitions}
 use Rattle.model.specs.Keys.{partition_of, page_of}
@@ -56,8 +55,8 @@ unfoldable pub answers_in : Geometry → ℕ → List ℕ → List ℕ → Place
 answers_in g t p f at q k = eqb (partition_of g k) t && eqb (page_of g k) q && is_found_in at (sought g k p f)
 
 abbrev pub is_at : ℕ → Option ℕ → Bool
-is_at i none = false
-is_at i (some j) = eqb i j
+is_at i None = false
+is_at i (Some j) = eqb i j
 
 -- and entry i of the page the one that it answers with: of a key's entries in a page the first
 unfoldable pub answers_with : Geometry → ℕ → List ℕ → List ℕ → Place → ℕ → ℕ → Bool
@@ -92,4 +91,4 @@ text_checks g t room p f =
     (refuse_if (head_overfull g (head_of p)) 12
     (refuse_if (some_page_overfull g p) 12
     (refuse_if (some_batch_fails g t p f) 13
-    (refuse_if (ltb room (length (partition_text g t p f))) 22 none))))
+    (refuse_if (ltb room (length (partition_text g t p f))) 22 None))))

@@ -1,7 +1,6 @@
 -- "put: a key in its buffer page gets the new value in its first place there; otherwise it is appended. For an append to a page with E entries the partition is flushed first; that flush counts as before the put. The first list entry of this key is removed. It reports pages written, 0 or Q."
 -- Document 02: "The store never puts sound at position 0 ... put therefore refuses value 0."
-use Rattle.std.specs.Prelude.{ℕ, Bool, cond, not, ◌&&◌, List, eqb}
-use Rattle.std.proofs.Math.Option.{Option, none, some}
+use Rattle.std.specs.Prelude.{ℕ, Bool, cond, not, ◌&&◌, List, eqb, Option, None, Some}
 use Rattle.model.specs.Bytes.{within}
 use Rattle.model.specs.Search.{is_some}
 use Rattle.model.specs.Geometry.{capacity, list_at, list_size, buffer_at}
@@ -36,7 +35,7 @@ room_checks g k p f =
     refuse_if (key_overfull g k p) 12
     (cond (due g k p)
     (refuse_if (some_page_overfull g p) 12 (due_checks g (partition_of g k) 1 p f))
-    (refuse_if (total_out g (appends g k p) 0 (head_of p)) 12 none))
+    (refuse_if (total_out g (appends g k p) 0 (head_of p)) 12 None))
 
 -- 21, and then these
 unfoldable pub put_checks : Geometry → ℕ → ℕ → List ℕ → List ℕ → Option Refusal
@@ -44,8 +43,8 @@ put_checks g k v p f = refuse_if (no_position v) 21 (room_checks g k p f)
 
 -- the list without entry i, or as it is
 abbrev pub unlisted_at : Option ℕ → Geometry → List ℕ → List ℕ
-unlisted_at (some i) g p = with_head (unlisted_head 1 (head_of p)) (within list_at (list_size g) (struck i (listed_of p)) p)
-unlisted_at none g p = p
+unlisted_at (Some i) g p = with_head (unlisted_head 1 (head_of p)) (within list_at (list_size g) (struck i (listed_of p)) p)
+unlisted_at None g p = p
 
 unfoldable pub unlisted : Geometry → ℕ → List ℕ → List ℕ
 unlisted g k p = unlisted_at (listed_at (listed_of p) k (list_of g p)) g p

@@ -1,6 +1,5 @@
 -- Records of 16 bytes, one after the other, that open with a key: a page's entries behind its head, a delete list's places.
-use Rattle.std.specs.Prelude.{ℕ, zero, suc, ◌+◌, ◌-◌, ◌*◌, Bool, cond, List, [], ◌++◌, eqb}
-use Rattle.std.proofs.Math.Option.{Option}
+use Rattle.std.specs.Prelude.{ℕ, zero, suc, ◌+◌, ◌-◌, ◌*◌, Bool, cond, List, [], ◌++◌, eqb, Option}
 use Rattle.std.proofs.lemmas.List.Edits.{sets}
 use Rattle.model.specs.Bytes.{word, mid, zeros}
 use Rattle.model.specs.Search.{first_from}

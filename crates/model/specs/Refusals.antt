@@ -1,7 +1,6 @@
 -- "Refusals that come from the input", "Refusals that come from the state": those that more than one call checks.
 -- Each call's list of checks stands with the call. The 13 of get and view is found as pages are read, and stands with the answers.
-use Rattle.std.specs.Prelude.{ℕ, ◌+◌, ◌-◌, min, Bool, true, false, not, ◌||◌, List, eqb, ltb, length}
-use Rattle.std.proofs.Math.Option.{Option, none, some}
+use Rattle.std.specs.Prelude.{ℕ, ◌+◌, ◌-◌, min, Bool, true, false, not, ◌||◌, List, eqb, ltb, length, Option, None, Some}
 use Rattle.model.specs.Search.{any_from}
 use Rattle.model.specs.Geometry.{allowed, capacity, most_entries, memory_need, flash_need}
 use Rattle.model.specs.Opening.{opening_size, geometry_of, eighth}
@@ -13,13 +12,13 @@ use Rattle.model.specs.declared.Geometry.{Geometry}
 
 -- the refusal n where its condition holds, otherwise what the later checks say
 abbrev pub refuse_if : Bool → ℕ → Option Refusal → Option Refusal
-refuse_if true n later = some (unread n)
+refuse_if true n later = Some (unread n)
 refuse_if false n later = later
 
 -- 13 where the head of page q, read after those before it, is not the one expected; it counts the heads read, with the failed one
 abbrev pub refuse_head : Option ℕ → Option Refusal → Option Refusal
-refuse_head (some q) later = some (record { number = 13; reads = q + 1 })
-refuse_head none later = later
+refuse_head (Some q) later = Some (record { number = 13; reads = q + 1 })
+refuse_head None later = later
 
 -- 2 (below 32), 11, 2, 3: every call but format
 unfoldable pub unopened : Areas → Option Refusal → Option Refusal

@@ -1,7 +1,6 @@
 -- "The session program": a text to its lines, a line to a call or to none, an answer to its text.
-use Rattle.std.specs.Prelude.{ℕ, ◌^◌, cond, List, [], ◌∷◌, ◌++◌, eqb}
+use Rattle.std.specs.Prelude.{ℕ, ◌^◌, cond, List, [], ◌∷◌, ◌++◌, eqb, Option, None, Some}
 use Prim.Native.String.{String}
-use Rattle.std.proofs.Math.Option.{Option, none, some}
 use Rattle.model.specs.Bytes.{zeros}
 use Rattle.model.specs.Geometry.{geometry}
 use Rattle.model.specs.Text.{text, decimal, past, Figure, figure}
@@ -9,12 +8,12 @@ use Rattle.model.specs.Answers.{Areas, Answer, done, found, absent, shown, refus
 use Rattle.model.specs.Calls.{Call, format, put, get, del, flush, count, drop, reply, after}
 
 abbrev pub then : {A B : Type 0} → Option A → (A → Option B) → Option B
-then none f = none
-then (some x) f = f x
+then None f = None
+then (Some x) f = f x
 
 abbrev pub or_else : {A : Type 0} → Option A → Option A → Option A
-or_else none other = other
-or_else (some x) other = some x
+or_else None other = other
+or_else (Some x) other = Some x
 
 -- the number below the limit that follows a fixed text
 abbrev pub number_past : String → ℕ → List ℕ → Option Figure
@@ -22,8 +21,8 @@ number_past s limit xs = then (past (text s) xs) (figure limit)
 
 -- the call, where nothing but the fixed text is left
 abbrev pub at_end : Call → List ℕ → Option Call
-at_end c [] = some c
-at_end c (x ∷ xs) = none
+at_end c [] = Some c
+at_end c (x ∷ xs) = None
 
 abbrev pub ending : String → List ℕ → Call → Option Call
 ending s xs c = then (past (text s) xs) (at_end c)
@@ -88,12 +87,12 @@ answer_text (shown s) = []
 
 -- A line of any other text prints `(bad)` and does nothing.
 abbrev pub printed_for : Option Call → Areas → List ℕ
-printed_for none a = text "(bad)\n"
-printed_for (some c) a = answer_text (reply a c)
+printed_for None a = text "(bad)\n"
+printed_for (Some c) a = answer_text (reply a c)
 
 abbrev pub left_by : Option Call → Areas → Areas
-left_by none a = a
-left_by (some c) a = after a c
+left_by None a = a
+left_by (Some c) a = after a c
 
 unfoldable pub line_prints : List ℕ → Areas → List ℕ
 line_prints line a = printed_for (call_of line) a

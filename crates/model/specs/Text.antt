@@ -1,9 +1,8 @@
 -- Texts as bytes: fixed texts, and decimal figures.
-use Rattle.std.specs.Prelude.{ℕ, zero, suc, ◌+◌, ◌-◌, ◌*◌, ◌/◌, ◌%◌, Bool, true, false, cond, not, ◌&&◌, List, [], ◌∷◌, ◌++◌, eqb, ltb, length, drop}
+use Rattle.std.specs.Prelude.{ℕ, zero, suc, ◌+◌, ◌-◌, ◌*◌, ◌/◌, ◌%◌, Bool, true, false, cond, not, ◌&&◌, List, [], ◌∷◌, ◌++◌, eqb, ltb, length, drop, Option, None, Some}
 use Prim.Native.Char.{code}
 use Prim.Native.String as string
 use Prim.Native.String.{String}
-use Rattle.std.proofs.Math.Option.{Option, none, some}
 use Rattle.model.specs.Geometry.{between}
 
 abbrev pub text : String → List ℕ
@@ -21,9 +20,9 @@ decimal n = figures 20 n
 
 -- what follows a fixed text
 unfoldable pub past : List ℕ → List ℕ → Option (List ℕ)
-past [] xs = some xs
-past (b ∷ bs) [] = none
-past (b ∷ bs) (x ∷ xs) = cond (eqb x b) (past bs xs) none
+past [] xs = Some xs
+past (b ∷ bs) [] = None
+past (b ∷ bs) (x ∷ xs) = cond (eqb x b) (past bs xs) None
 
 -- the figures that a text opens with
 unfoldable pub leading : List ℕ → List ℕ
@@ -50,5 +49,5 @@ pub record Figure : Type 0 where
 unfoldable pub figure : ℕ → List ℕ → Option Figure
 figure limit xs =
     cond (is_plain (leading xs) && ltb (number_from 0 (leading xs)) limit)
-    (some (record { value = number_from 0 (leading xs); rest = drop (length (leading xs)) xs }))
-    none
+    (Some (record { value = number_from 0 (leading xs); rest = drop (length (leading xs)) xs }))
+    None

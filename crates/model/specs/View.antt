@@ -1,6 +1,5 @@
 -- "view shows one page as a part of the memory area or of the flash area, given partition, page and flush number (0 is the buffer)."
-use Rattle.std.specs.Prelude.{ℕ, ◌+◌, Bool, true, false, cond, not, ◌&&◌, ◌||◌, List, eqb, ltb}
-use Rattle.std.proofs.Math.Option.{Option, none}
+use Rattle.std.specs.Prelude.{ℕ, ◌+◌, Bool, true, false, cond, not, ◌&&◌, ◌||◌, List, eqb, ltb, Option, None}
 use Rattle.model.specs.Geometry.{partitions, partition_at, buffer_at, slot_page_at}
 use Rattle.model.specs.Page.{expected}
 use Rattle.model.specs.Partition.{head_of, slot, is_live}
@@ -15,7 +14,7 @@ view_checks g t q n p =
     refuse_if (not (ltb t (partitions g)) || not (ltb q g.pages)) 4
     (refuse_if (head_overfull g (head_of p)) 12
     (refuse_if (eqb n 0 && page_overfull g p q) 12
-    (refuse_if (not (eqb n 0) && not (is_live (head_of p) n)) 17 none)))
+    (refuse_if (not (eqb n 0) && not (is_live (head_of p) n)) 17 None)))
 
 -- the part that is shown
 abbrev pub page_shown : Bool → Geometry → ℕ → ℕ → ℕ → List ℕ → Answer

@@ -20,10 +20,3 @@ pub struct Card {
     pub flushes: u64,
     pub first_lost: u64,
 }
-
-// A card, or the number of the refusal.
-#[derive(Clone, Copy)]
-pub enum Figured {
-    Done(Card),
-    Refused(u32),
-}

@@ -1,46 +1,60 @@
--- What opening a table shows: which refusal every call gives, or that the common checks stop none.
+-- What opening shows: memory and flash are a table, or every call but format gives the refusal of the common checks.
 use Prim.Native.Nat.{ℕ}
 use mathlib.Core.List.{List}
-use mathlib.Core.Option.{Option, none, some}
-use mathlib.Core.Path.{◌≡◌, refl, sym, ◌∙◌, ap}
+use mathlib.Core.Path.{◌≡◌, refl, sym, ◌∙◌}
+use Rattle.std.specs.Prelude.{Option, None, Some, Result, Ok, Err, IsErrAnd}
 use Rattle.model.specs.declared.Geometry.{Geometry}
 use Rattle.model.specs.Opening.{geometry_of}
-use Rattle.model.specs.Answers.{Refusal, unread}
+use Rattle.model.specs.Answers.{Refusal, Answer}
 use Rattle.model.specs.Refusals.{unopened}
-use Rattle.model.proofs.Calls.{Opened, opened, opens, unopened-stays}
-use Rattle.answers.specs.Performs.{areas}
-use Rattle.opening.specs.Opened.{opening_number, IsTable}
+use Rattle.model.specs.Calls.{Call}
+use Rattle.model.proofs.Calls.{opened, opens, unopened-stays, Opens, stopped}
+use Rattle.answers.specs.declared.Reason.{Reason}
+use Rattle.answers.specs.declared.Refusal as answers
+use Rattle.answers.specs.Told.{as_refusal, unread, refusing}
+use Rattle.answers.specs.Performs.{areas, Performs}
+use Rattle.answers.proofs.Performing as performing
+use Rattle.opening.specs.Opened.{IsTable}
+use Rattle.opening.specs.Opened as opening
 
 module _ (m f : List ℕ) where
-  -- the number of the refusal, and 0 where there is none
-  pub number-refused : (n : ℕ) → unopened (areas m f) none ≡ some (unread n) → opening_number m f ≡ n
-  unfolding opening_number
-  number-refused n e = rw e
+  -- ---- what the common checks say is what opening gives
+  pub refused : (r : Refusal) → unopened (areas m f) None ≡ Some r → Err r ≡ opening.opened m f
+  unfolding opening.opened
+  refused r e = rw e
 
-  pub number_passed : unopened (areas m f) none ≡ none → opening_number m f ≡ 0
-  unfolding opening_number
-  number_passed e = rw e
+  pub passed : (g : Geometry) → g ≡ geometry_of m → unopened (areas m f) None ≡ None → Ok g ≡ opening.opened m f
+  unfolding opening.opened
+  passed g own e = rw (own, e)
 
-  pub unopened-refused : (n : ℕ) → n ≡ opening_number m f → (n ≡ 0 → ⊥) → (later : Option Refusal) → unopened (areas m f) later ≡ some (unread n)
-  unfolding opening_number
-  unopened-refused n e h later = go (unopened (areas m f) none) refl
+  -- ---- what a caller has of it
+  pub opened-table : (g : Geometry) → Ok g ≡ opening.opened m f → IsTable g m f
+  opened-table g e = go (unopened (areas m f) None) refl
     where
-      go : (o : Option Refusal) → unopened (areas m f) none ≡ o → unopened (areas m f) later ≡ some (unread n)
-      go none z = absurd (h (e ∙ rw z))
-      go (some r) z = let s = unopened-stays (areas m f) r z in s.2 later ∙ ap some s.0 ∙ ap (λ (x : ℕ). some (unread x)) (sym (e ∙ rw z))
+      go : (o : Option Refusal) → unopened (areas m f) None ≡ o → IsTable g m f
+      go None z =
+          let w = opened (areas m f) None z in
+          let d = e ∙ sym (passed (geometry_of m) refl z) in
+          let own : geometry_of m ≡ g = cc in
+          record { own = own; fine = rw own at w.fine; memory_fits = rw own at w.memory_fits; flash_fits = rw own at w.flash_fits; opens = opens (areas m f) w }
+      go (Some r) z = let d = e ∙ sym (refused r z) in absurd cc
 
-  passed : opening_number m f ≡ 0 → unopened (areas m f) none ≡ none
-  unfolding opening_number
-  passed e = go (unopened (areas m f) none) refl
-    where
-      go : (o : Option Refusal) → unopened (areas m f) none ≡ o → unopened (areas m f) none ≡ none
-      go none z = z
-      go (some r) z = absurd ((unopened-stays (areas m f) r z).1 (sym (rw z) ∙ e))
+  module _ (reason : Reason) (e : Err (as_refusal (unread reason)) ≡ opening.opened m f) where
+    abbrev told : Refusal
+    told = as_refusal (unread reason)
 
-  pub opened-areas : opening_number m f ≡ 0 → Opened (areas m f)
-  opened-areas e = opened (areas m f) none (passed e)
+    -- the answer of each call
+    pub refuses : (c : Call) → Opens c → Performs c m f (refusing (unread reason)) m f
+    refuses c o = go (unopened (areas m f) None) refl
+      where
+        go : (s : Option Refusal) → unopened (areas m f) None ≡ s → Performs c m f (refusing (unread reason)) m f
+        go None z = let d = e ∙ sym (passed (geometry_of m) refl z) in absurd cc
+        go (Some r) z =
+            let d = e ∙ sym (refused r z) in
+            let same : r ≡ told = cc in
+            performing.refusing c m f told (stopped (areas m f) told (rw same at (unopened-stays (areas m f) r z).2) c o)
 
-  pub opened-table : (g : Geometry) → opening_number m f ≡ 0 → g ≡ geometry_of m → IsTable g m f
-  opened-table g e own =
-      let o = opened-areas e in
-      record { own = sym own; fine = rw own o.fine; memory_fits = rw own o.memory_fits; flash_fits = rw own o.flash_fits; opens = opens (areas m f) o }
+    -- what its `?` returns tells that answer
+    pub opening-stops : {A : Type 0} (tell : Result A answers.Refusal → Answer) (c : Call) → Opens c → (r : Result A answers.Refusal) → IsErrAnd r (λ x. x ≡ unread reason) → tell (Err (unread reason)) ≡ refusing (unread reason) → Performs c m f (tell r) m f
+    opening-stops tell c o (Err x) h t = rw (h, t) (refuses c o)
+    opening-stops tell c o (Ok x) h t = absurd h

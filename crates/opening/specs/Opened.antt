@@ -1,21 +1,16 @@
 -- What the checks of an opening answer, and what an opened table gives the calls.
-use Rattle.std.specs.Prelude.{ℕ, ◌≤◌, true, List, ◌≡◌, length}
-use Rattle.std.proofs.Math.Option.{Option, none, some}
+use Rattle.std.specs.Prelude.{ℕ, ◌≤◌, true, List, ◌≡◌, length, Option, None, Result}
 use Rattle.model.specs.declared.Geometry.{Geometry}
 use Rattle.model.specs.Geometry.{allowed, memory_need, flash_need}
 use Rattle.model.specs.Opening.{geometry_of}
 use Rattle.model.specs.Answers.{Refusal}
 use Rattle.model.specs.Refusals.{unopened}
 use Rattle.answers.specs.Performs.{areas}
+use Rattle.answers.specs.Told.{unless}
 
--- the number of a refusal, or 0
-abbrev pub number_of : Option Refusal → ℕ
-number_of none = 0
-number_of (some r) = r.number
-
--- what the checks say that every call but format begins with
-unfoldable pub opening_number : List ℕ → List ℕ → ℕ
-opening_number m f = number_of (unopened (areas m f) none)
+-- what the checks say that every call but format begins with, or the geometry
+unfoldable pub opened : List ℕ → List ℕ → Result Geometry Refusal
+opened m f = unless (unopened (areas m f) None) (geometry_of m)
 
 -- memory and flash are a table with this geometry: the common checks stop no call
 pub record IsTable (g : Geometry) (m f : List ℕ) : Type 0 where

@@ -3,8 +3,10 @@
 
 ghost use Rattle.std.specs.Prelude.{◌≡◌, ◌≤◌, length};
 ghost use Rattle.model.specs.Opening.{geometry_of};
-ghost use Rattle.opening.specs.Opened.{opening_number};
+ghost use Rattle.answers.specs.Told.{told_unread};
+ghost use Rattle.opening.specs.Opened.{opened};
 
+use answers::Reason;
 use model::Geometry;
 
 // The numbers that memory opens with.
@@ -23,25 +25,25 @@ pub fn geometry_of(memory: &[u8]) -> Geometry
     }
 }
 
-// 2, 11, 2, 3, or 0 for a table. A number fits a register, and the calls read the geometry behind it.
-pub fn check(memory: &[u8], flash: &[u8]) -> u32
-    ensures { result ≡ opening_number memory.now flash.now }
+// 2, 11, 2, 3, or the geometry of a table.
+pub fn open(memory: &[u8], flash: &[u8]) -> Result<Geometry, Reason>
+    ensures { told_unread result ≡ opened memory.now flash.now }
 {
     if memory.len() < 32 {
-        return 2;
+        return Err(Reason::MemoryShort);
     }
     let g = geometry_of(memory);
     if !geometry::is_allowed(g) {
-        return 11;
+        return Err(Reason::NoTable);
     }
     if words::u32_at(memory, 28) != 0 {
-        return 11;
+        return Err(Reason::NoTable);
     }
     if memory.len() < geometry::memory_need(g) {
-        return 2;
+        return Err(Reason::MemoryShort);
     }
     if flash.len() < geometry::flash_need(g) {
-        return 3;
+        return Err(Reason::FlashShort);
     }
-    0
+    Ok(g)
 }

@@ -18,7 +18,7 @@ use Rattle.model.proofs.Searching.{first-here, first_next, first-end}
 use Rattle.model.proofs.Sizes.{sizes, slot_lt, slot-page-fits}
 use Rattle.model.proofs.Sums.{sum-none, sum-next}
 use Rattle.model.proofs.Words.{word-mid}
-use Rattle.outgoing.specs.declared.Leaving.TheVariants.{Refused, Entries}
+use Rattle.std.specs.Prelude.{Ok, Err}
 use Rattle.outgoing.specs.Leaving.{heads_of}
 
 module _ (g : Geometry) (t n : ℕ) (f : List ℕ) where
@@ -38,23 +38,26 @@ module _ (g : Geometry) (t n : ℕ) (f : List ℕ) where
   none_read = record { inside = omega arith; failing = rw sub-zero; counted = sym (sum-none _); small = omega arith }
 
   module _ (entries q : ℕ) (read : Read entries q) where
-    pub all_read : g.pages ≤ q → Entries entries ≡ heads_of g t n f
+    pub all_read : g.pages ≤ q → Ok entries ≡ heads_of g t n f
     unfolding heads_of
     all_read l =
         let e : q ≡ g.pages = omega (arith, read.inside) in
         rw (read.failing ∙ first-end fails g.pages q l, read.counted, e)
 
     -- page q begins at `at`, and b is whether its head is the one expected
-    module _ (l : q < g.pages) (at : ℕ) (e : at ≡ slot_page_at g t (slot g n) q) (b : Bool) (eb : b ≡ expected g t n q (mid at g.page f)) where
-      own : b ≡ expected g t n q (page q)
-      own = eb ∙ rw e
+    module _ (l : q < g.pages) (j at : ℕ) (ej : j ≡ slot g n) (e : at ≡ slot_page_at g t j q) (b : Bool) (eb : b ≡ expected g t n q (mid at g.page f)) where
+      lies : mid at g.page f ≡ page q
+      lies = rw (e, ej)
 
-      pub one-fails : b ≡ false → Refused (record { number = 13; reads = q + 1 }) ≡ heads_of g t n f
+      own : b ≡ expected g t n q (page q)
+      own = eb ∙ rw lies
+
+      pub one-fails : b ≡ false → Err (record { number = 13; reads = q + 1 }) ≡ heads_of g t n f
       unfolding heads_of
       one-fails x = rw (read.failing ∙ first-here fails g.pages q l (ap not (sym own ∙ x)))
 
       count-in : allowed g ≡ true → count_of (page q) ≡ word 2 f at
-      count-in ok = let z = sizes g ok in let small : 0 + 2 ≤ g.page = omega (arith, z.page-min) in rw (← e, word-mid 2 f at g.page 0 small, add-zero)
+      count-in ok = let z = sizes g ok in let small : 0 + 2 ≤ g.page = omega (arith, z.page-min) in rw (← lies, word-mid 2 f at g.page 0 small, add-zero)
 
       pub one_more : allowed g ≡ true → b ≡ true → (c : ℕ) → c ≡ word 2 f at → Read (entries + c) (q + 1)
       one_more ok x c ec =
@@ -68,5 +71,5 @@ module _ (g : Geometry) (t n : ℕ) (f : List ℕ) where
           }
 
   -- where a page of the batch lies in flash
-  pub lies-in-flash : allowed g ≡ true → (q at : ℕ) → t < partitions g → q < g.pages → at ≡ slot_page_at g t (slot g n) q → flash_need g ≤ length f → at + g.page ≤ length f
-  lies-in-flash ok q at lt lq e fits = omega (arith, slot-page-fits g t (slot g n) q lt (slot_lt g ok n) lq)
+  pub lies-in-flash : allowed g ≡ true → (q j at : ℕ) → t < partitions g → q < g.pages → j ≡ slot g n → at ≡ slot_page_at g t j q → flash_need g ≤ length f → at + g.page ≤ length f
+  lies-in-flash ok q j at lt lq ej e fits = let here : at ≡ slot_page_at g t (slot g n) q = rw (e, ej) in omega (arith, here, slot-page-fits g t (slot g n) q lt (slot_lt g ok n) lq)

@@ -1,12 +1,8 @@
 // One page: a head of 16 bytes, then its entries, the records 1 to count.
 #![tactic(auto)]
 
-ghost use Rattle.std.specs.Prelude.{◌≡◌, ◌+◌, ◌*◌, ◌≤◌, length};
-ghost use Rattle.std.proofs.Math.Option.{none};
+ghost use Rattle.std.specs.Prelude.{◌≡◌, ◌+◌, ◌*◌, ◌≤◌, length, None};
 ghost use Rattle.model.specs.Page.{count_of, value_at, searched, appended, replaced, removed, stored, added, without, taken, emptied};
-ghost use Rattle.records.specs.Found.{found_at};
-
-use records::Found;
 
 pub fn count(page: &[u8]) -> usize
     requires { 16 ≤ length page.now }
@@ -23,13 +19,14 @@ pub fn value_at(page: &[u8], i: usize) -> u64
 }
 
 // The first used entry with the key.
-pub fn search(page: &[u8], key: u64) -> Found
+pub fn search(page: &[u8], key: u64) -> Option<usize>
     requires { 16 + 16 * count_of page.now ≤ length page.now }
-    ensures { found_at result ≡ searched key page.now }
+    ensures { result ≡ searched key page.now }
 {
     records::search(page, key, count(page), 1)
 }
 
+#[tactic(auto, unfolding(model::specs::Page::appended))]
 pub fn append(page: &mut [u8], key: u64, value: u64)
     requires page_in_bounds { 32 + 16 * count_of page.old ≤ length page.old }
     requires page_len_bound { length page.old ≤ 4096 }
@@ -41,6 +38,7 @@ pub fn append(page: &mut [u8], key: u64, value: u64)
     words::write_u16(page, 0, n as u16);
 }
 
+#[tactic(auto, unfolding(model::specs::Page::replaced))]
 pub fn replace(page: &mut [u8], i: usize, value: u64)
     requires { 16 * i + 16 ≤ length page.old }
     ensures { page.new ≡ replaced i value page.old }
@@ -49,6 +47,7 @@ pub fn replace(page: &mut [u8], i: usize, value: u64)
 }
 
 // Entry i leaves; the later ones move down.
+#[tactic(auto, unfolding(model::specs::Page::removed))]
 pub fn remove(page: &mut [u8], i: usize)
     requires le_i { 1 ≤ i }
     requires i_bound { i ≤ count_of page.old }
@@ -63,16 +62,16 @@ pub fn remove(page: &mut [u8], i: usize)
 // The key gets the value: in its first place, or in a new one. Tells how many entries that adds.
 pub fn store(page: &mut [u8], key: u64, value: u64) -> u32
     requires page_in_bounds { 16 + 16 * count_of page.old ≤ length page.old }
-    requires page_in_bounds_2 { searched key page.old ≡ none → 32 + 16 * count_of page.old ≤ length page.old }
+    requires page_in_bounds_2 { searched key page.old ≡ None → 32 + 16 * count_of page.old ≤ length page.old }
     requires page_len_bound { length page.old ≤ 4096 }
     ensures { (page.new ≡ stored key value page.old) × (result ≡ added key page.old) }
 {
     match search(page, key) {
-        Found::At(i) => {
+        Some(i) => {
             replace(page, i, value);
             0
         }
-        Found::Nothing => {
+        None => {
             append(page, key, value);
             1
         }
@@ -85,11 +84,11 @@ pub fn drop_key(page: &mut [u8], key: u64) -> u32
     ensures { (page.new ≡ without key page.old) × (result ≡ taken key page.old) }
 {
     match search(page, key) {
-        Found::At(i) => {
+        Some(i) => {
             remove(page, i);
             1
         }
-        Found::Nothing => 0,
+        None => 0,
     }
 }
 

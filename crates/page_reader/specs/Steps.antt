@@ -1,22 +1,25 @@
 -- What a reader of a page gives next, and what it gives in turn.
-use Rattle.std.specs.Prelude.{ℕ, zero, suc, ◌+◌, cond, ◌≡◌, List, [], ◌∷◌, leb}
+use Rattle.std.specs.Prelude.{ℕ, zero, suc, ◌+◌, cond, ◌≡◌, List, [], ◌∷◌, leb, Option, None, Some}
 use Rattle.model.specs.Records.{key_at}
 use Rattle.model.specs.Page.{count_of, value_at}
 use Rattle.page_reader.specs.declared.Entry.{Entry}
-use Rattle.page_reader.specs.declared.Step.{Step}
-use Rattle.page_reader.specs.declared.Step.TheVariants.{Given, End}
 
 abbrev pub entry_of : List ℕ → ℕ → Entry
 entry_of p i = record { place = i; key = key_at p i; value = value_at p i }
 
 -- the entry at a place, or the end behind the used ones
-unfoldable pub step_at : List ℕ → ℕ → Step
-step_at p i = cond (leb i (count_of p)) (Given (entry_of p i)) End
+unfoldable pub step_at : List ℕ → ℕ → Option Entry
+step_at p i = cond (leb i (count_of p)) (Some (entry_of p i)) None
+
+-- where a reader stands when it was asked at place i
+abbrev pub behind : ℕ → Option Entry → ℕ
+behind i (Some e) = i + 1
+behind i None = i
 
 -- asked at place i, and after each entry at the place behind it, it gives these, then its end
 abbrev pub Gives : List ℕ → ℕ → List Entry → Type 0
-Gives p i [] = step_at p i ≡ End
-Gives p i (e ∷ es) = (step_at p i ≡ Given e) × Gives p (e.place + 1) es
+Gives p i [] = step_at p i ≡ None
+Gives p i (e ∷ es) = (step_at p i ≡ Some e) × Gives p (e.place + 1) es
 
 -- the entries at n places, from place i on
 unfoldable pub entries_from : ℕ → List ℕ → ℕ → List Entry

@@ -1,9 +1,10 @@
-// A reader lent one page, which gives its entries in turn. It is a struct that holds a reference; the work is done by `step_at`.
+// A reader lent one page, which gives its entries in turn: an iterator that holds a reference. The work is done by `step_at`.
 #![tactic(auto)]
 
-ghost use Rattle.std.specs.Prelude.{◌≡◌, ◌+◌, ◌*◌, ◌≤◌, length};
+ghost use Rattle.std.specs.Prelude.{◌≡◌, ◌+◌, ◌-◌, ◌*◌, ◌<◌, ◌≤◌, length, IfSome};
 ghost use Rattle.model.specs.Page.{count_of};
-ghost use Rattle.page_reader.specs.Steps.{step_at};
+ghost use Rattle.std.specs.Iterator.{at_most};
+ghost use Rattle.page_reader.specs.Steps.{step_at, behind};
 
 // The page, and the place of the entry that comes next.
 #[derive(Clone, Copy)]
@@ -19,21 +20,16 @@ pub struct Entry {
     pub value: u64,
 }
 
-#[derive(Clone, Copy)]
-pub enum Step {
-    Given(Entry),
-    End,
-}
-
 // The entry at a place, or the end behind the used ones.
-fn step_at(page: &[u8], place: usize) -> Step
+fn step_at(page: &[u8], place: usize) -> Option<Entry>
     requires { 16 + 16 * count_of page.now ≤ length page.now }
-    ensures { result ≡ step_at page.now place }
+    ensures step { result ≡ step_at page.now place }
+    ensures small { IfSome result (λ entry. place < 65536) }
 {
     if page::count(page) < place {
-        return Step::End;
+        return None;
     }
-    Step::Given(Entry {
+    Some(Entry {
         place,
         key: words::u64_at(page, 16 * place),
         value: page::value_at(page, place),
@@ -48,15 +44,32 @@ pub fn new<'a>(page: &'a [u8]) -> Reader<'a>
 }
 
 // What it gives next.
-pub fn next<'a>(r: Reader<'a>) -> Step
+pub fn next<'a>(r: Reader<'a>) -> Option<Entry>
     requires { 16 + 16 * count_of r.page.now ≤ length r.page.now }
     ensures { result ≡ step_at r.entry.page.now r.entry.place }
 {
     step_at(r.page, r.place)
 }
 
+// The entries from the reader's place on, in turn. Each leaves it at the place behind.
+impl<'a> Iterator for Reader<'a> {
+    type Item = Entry;
+
+    ghost can_next = { λ r. 16 + 16 * count_of r.page.now ≤ length r.page.now };
+
+    ghost next_gives = { λ r given s. (given ≡ step_at r.page.now r.place) × (s.page ≡ r.page) × (s.place ≡ behind r.place given) };
+
+    ghost remaining = { λ r. at_most (count_of r.page.now + 1 - r.place) };
+
+    fn next(&mut self) -> Option<Entry> {
+        let entry = step_at(self.page, self.place)?;
+        self.place += 1;
+        Some(entry)
+    }
+}
+
 // For a caller that goes on from a place: a reader that has come to it, asked once.
-pub fn entry_at(page: &[u8], place: usize) -> Step
+pub fn entry_at(page: &[u8], place: usize) -> Option<Entry>
     requires { 16 + 16 * count_of page.now ≤ length page.now }
     ensures { result ≡ step_at page.now place }
 {

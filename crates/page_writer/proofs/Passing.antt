@@ -1,6 +1,6 @@
 -- The writer asks exactly what 2, 11, 3, 4 and 16 leave.
 use Prim.Native.Nat.{ℕ, ◌+◌, ◌<◌, ◌^◌}
-use mathlib.Core.Option.{none}
+use Rattle.std.specs.Prelude.{None}
 use mathlib.Core.Path.{◌≡◌, refl, ◌∙◌}
 use native.Mathlib.Omega.{arith}
 use lib.ListN.{get_or}
@@ -20,7 +20,7 @@ module _ (a : Areas) (t q : ℕ) where
   next = flushes_of (partition_in a t) + 1
 
   -- areas, partition and page on which none of them refuses meet it, and the number has 32 bits
-  pub passed-writable : ((i : ℕ) → get_or a.memory i 0 < 256) → unopened a (page_checks (geometry_in a) t q (partition_in a t)) ≡ none
+  pub passed-writable : ((i : ℕ) → get_or a.memory i 0 < 256) → unopened a (page_checks (geometry_in a) t q (partition_in a t)) ≡ None
       → Writable (geometry_in a) t q next a.memory a.flash × (next < 2 ^ 32)
   passed-writable bytes passed =
       let o = opened a _ passed in
@@ -30,6 +30,6 @@ module _ (a : Areas) (t q : ℕ) where
       (record { fine = o.fine; memory_fits = o.memory_fits; flash_fits = o.flash_fits; partition_below = c.0; page_below = c.1; number_next = refl }, omega (arith, other, words.flushes))
 
   -- and on an opened table none of them refuses what meets it
-  pub writable-passed : Opened a → (n : ℕ) → n < 2 ^ 32 → Writable (geometry_in a) t q n a.memory a.flash → unopened a (page_checks (geometry_in a) t q (partition_in a t)) ≡ none
+  pub writable-passed : Opened a → (n : ℕ) → n < 2 ^ 32 → Writable (geometry_in a) t q n a.memory a.flash → unopened a (page_checks (geometry_in a) t q (partition_in a t)) ≡ None
   writable-passed o n small w =
       opens a o _ ∙ page-passes (geometry_in a) t q (partition_in a t) w.partition_below w.page_below (ne_eqb (flushes_of (partition_in a t)) last_flush (λ e. omega (arith, small, w.number_next)))

@@ -1,6 +1,5 @@
 -- What the functions on one partition's bytes ask of them.
-use Rattle.std.specs.Prelude.{ℕ, ◌<◌, true, false, List, ◌≡◌, length}
-use Rattle.std.proofs.Math.Option.{none}
+use Rattle.std.specs.Prelude.{ℕ, ◌<◌, true, false, List, ◌≡◌, length, None}
 use Rattle.model.specs.declared.Geometry.{Geometry}
 use Rattle.model.specs.Geometry.{allowed, partitions, capacity, stride}
 use Rattle.model.specs.Keys.{page_of}
@@ -16,7 +15,7 @@ pub record Whole (g : Geometry) (p : List ℕ) : Type 0 where
 -- nothing that a call with the key reads is overfull, and there is room for the key in its page
 pub record Storable (g : Geometry) (k : ℕ) (p : List ℕ) : Type 0 where
   pub fits : key_overfull g k p ≡ false
-  pub room : searched k (buffer_of g p (page_of g k)) ≡ none → count_of (buffer_of g p (page_of g k)) < capacity g
+  pub room : searched k (buffer_of g p (page_of g k)) ≡ None → count_of (buffer_of g p (page_of g k)) < capacity g
 
 -- neither the head nor a buffer page is overfull, and a flush number is left
 pub record Flushable (g : Geometry) (t : ℕ) (p : List ℕ) : Type 0 where

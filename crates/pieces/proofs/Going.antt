@@ -3,6 +3,7 @@ use Prim.Native.Nat.{ℕ, ◌+◌, ◌-◌, ◌≤◌, ◌<◌}
 use mathlib.Core.List.{List, [], ◌∷◌, ◌++◌}
 use mathlib.Core.Path.{◌≡◌, sym, ◌∙◌, ap}
 use native.Mathlib.Omega.{arith}
+use Rattle.std.specs.Prelude.{Result, Ok, Err, IsErr}
 use lib.ListN.{length, take, drop, get_or, length-drop}
 use lib.Seq.{take_all, take-add, get_or-drop}
 use Rattle.model.specs.Bytes.{mid}
@@ -16,7 +17,7 @@ use Rattle.session.specs.Promises.{Ran, Takes}
 use Rattle.lines.proofs.Lines.{lines-last, whole-none, whole-more}
 use Rattle.session.proofs.Pieces.{leave-pieces}
 use Rattle.session.proofs.Running.{ran-none}
-use Rattle.pieces.specs.Pieces.{Went, RanLast}
+use Rattle.pieces.specs.Pieces.{Went, WentPartly, WentOn, RanLast}
 
 pub went-none : (xs : List ℕ) (a : Areas) → Went 0 xs a a
 went-none xs a = record { within = omega arith; whole = whole-none; leaves = sym (leave_none a) }
@@ -54,6 +55,11 @@ module _ (xs : List ℕ) (taken : ℕ) (inside : taken ≤ length xs) where
 
 pub unended-end : (xs : List ℕ) (n : ℕ) → length xs ≤ n → Unended n xs
 unended-end xs n l i g k = absurd (omega arith)
+
+-- an error tells nothing else
+pub went-err : {E : Type 0} (r : Result ℕ E) {xs : List ℕ} {a a' : Areas} → IsErr r → WentPartly xs a a' → WentOn r xs a a'
+went-err (Ok n) h w = absurd (cc)
+went-err (Err e) h w = w
 
 -- ---- the last line
 -- what is printed is as long as the answer

@@ -8,32 +8,17 @@ ghost use Rattle.printer.specs.Puts.{room};
 ghost use Rattle.held.specs.Held.{Within};
 ghost use Rattle.pieces.specs.Pieces.{WentOn, RanLast, MadeOf};
 
-use held::{Got, Rest};
-use session::Printed;
+use held::Rest;
+use std::io;
 
-// Where an unfinished line begins; or a write failed, and the session is over.
-#[derive(Clone, Copy)]
-pub enum Step {
-    Until(usize),
-    Failed,
-}
-
-// What a turn comes to: it goes on, the input has ended, or a read or a write failed.
-#[derive(Clone, Copy)]
-pub enum Next {
-    On(Rest),
-    Ended,
-    Failed,
-}
-
-// Runs the whole lines and writes their answers, again where the room for these ends early; tells where an unfinished line begins.
+// Runs the whole lines and writes their answers, again where the room for these ends early; tells where an unfinished line begins. No range counts the turns, since each takes as much as its answers have room for.
 fn run_whole(
     stdout: &impl Print,
     memory: &mut [u8],
     flash: &mut [u8],
     input: &[u8],
     out: &mut [u8],
-) -> Step
+) -> io::Result<usize>
     requires { room ≤ length out.old }
     ensures { WentOn result input.now (areas memory.old flash.old) (areas memory.new flash.new) }
 {
@@ -44,12 +29,10 @@ fn run_whole(
             break;
         }
         let printed = run.printed;
-        if stdout.write_all(&out[..printed]).is_err() {
-            return Step::Failed;
-        }
+        stdout.write_all(&out[..printed])?;
         taken += run.taken;
     }
-    Step::Until(taken)
+    Ok(taken)
 }
 
 // A last line that the end of input ends.
@@ -58,43 +41,37 @@ fn run_last(stdout: &impl Print, memory: &mut [u8], flash: &mut [u8], line: &[u8
     requires unended { Unended 0 line.now }
     ensures { RanLast line.now (areas memory.old flash.old) out.old out.new (areas memory.new flash.new) }
 {
-    if line.len() == 0 {
+    if line.is_empty() {
         return;
     }
-    let Printed::Until(end) = session::apply_line(memory, flash, line, out, 0) else {
+    let Some(end) = session::apply_line(memory, flash, line, out, 0) else {
         return;
     };
     let _ = stdout.write_all(&out[..end]);
 }
 
-// Goes on from what was read behind the bytes that are held; tells where the next unfinished line stands.
+// Goes on from a read behind the bytes that are held; tells where the next unfinished line stands, or none at the end of input. An error is the read's, or a write's.
 pub fn run_piece(
     stdout: &impl Print,
     memory: &mut [u8],
     flash: &mut [u8],
     input: &[u8],
     held: usize,
-    got: Got,
+    read: io::Result<usize>,
     out: &mut [u8],
-) -> Next
+) -> io::Result<Option<Rest>>
     requires room_in_bounds { room ≤ length out.old }
     requires held_in_bounds { held ≤ length input.now }
     requires unended { Unended 0 (take held input.now) }
-    requires within { Within got (length input.now - held) }
-    ensures { MadeOf got result held input.now (areas memory.old flash.old) out.old out.new (areas memory.new flash.new) }
+    requires within { Within read (length input.now - held) }
+    ensures { MadeOf read result held input.now (areas memory.old flash.old) out.old out.new (areas memory.new flash.new) }
 {
-    match got {
-        Got::Failure => Next::Failed,
-        Got::End => {
-            run_last(stdout, memory, flash, &input[..held], out);
-            Next::Ended
-        }
-        Got::Bytes(count) => {
-            let end = held + count;
-            let Step::Until(at) = run_whole(stdout, memory, flash, &input[..end], out) else {
-                return Next::Failed;
-            };
-            Next::On(Rest { at, end })
-        }
+    let count = read?;
+    if count == 0 {
+        run_last(stdout, memory, flash, &input[..held], out);
+        return Ok(None);
     }
+    let end = held + count;
+    let at = run_whole(stdout, memory, flash, &input[..end], out)?;
+    Ok(Some(Rest { at, end }))
 }

@@ -8,61 +8,32 @@ ghost use Rattle.model.specs.Session.{answer_text};
 ghost use Rattle.answers.specs.Told.{written, answered, refusing};
 ghost use Rattle.printer.specs.Puts.{Puts, room};
 
-use answers::{Answer, Refusal, Written};
+use answers::{Answer, Refusal};
 
 fn write_text(out: &mut [u8], at: usize, bytes: &[u8]) -> usize
     requires { at + length bytes.now ≤ length out.old }
     ensures { Puts bytes.now at out.old result out.new }
 {
-    let mut i = 0;
-    while i < bytes.len() {
-        out[at + i] = bytes[i];
-        i += 1;
-    }
-    at + i
+    let end = at + bytes.len();
+    out[at..end].copy_from_slice(bytes);
+    end
 }
 
-// How many figures n has: eight more than n / 100000000 has, or two more than n / 100, as long as that is not 0.
+// How many figures n has: one more than its logarithm, and 0 has one too.
+#[tactic(auto, using(crate::proofs::Figures::length_log))]
 fn decimal_length(n: u64) -> usize
     ensures { result ≡ length (decimal n) }
 {
-    let mut length: usize = 1;
-    let mut rest = n;
-    while 100000000 <= rest {
-        rest = rest / 100000000;
-        length += 8;
-    }
-    while 100 <= rest {
-        rest = rest / 100;
-        length += 2;
-    }
-    if 10 <= rest {
-        return length + 1;
-    }
-    length
+    n.checked_ilog10().unwrap_or(0) as usize + 1
 }
 
-// The last two figures first: all others are those of n / 100.
+#[tactic(auto, using(crate::proofs::Figures::decimal_std))]
 fn write_decimal(out: &mut [u8], at: usize, n: u64) -> usize
     requires { at + length (decimal n) ≤ length out.old }
     ensures { Puts (decimal n) at out.old result out.new }
 {
-    let end = at + decimal_length(n);
-    let mut i = end;
-    let mut rest = n;
-    while 100 <= rest {
-        out[i - 1] = b'0' + (rest % 10) as u8;
-        out[i - 2] = b'0' + (rest / 10 % 10) as u8;
-        rest = rest / 100;
-        i -= 2;
-    }
-    if 10 <= rest {
-        out[at + 1] = b'0' + (rest % 10) as u8;
-        out[at] = b'0' + (rest / 10) as u8;
-        return end;
-    }
-    out[at] = b'0' + rest as u8;
-    end
+    let mut figures = itoa::Buffer::new();
+    write_text(out, at, figures.format(n).as_bytes())
 }
 
 // A text, a number, and the end of the answer.
@@ -101,27 +72,27 @@ fn write_refusal(out: &mut [u8], at: usize, refusal: Refusal) -> usize
         out,
         at,
         b"(refused ",
-        refusal.number as u64,
+        refusal.reason.number() as u64,
         refusal.reads as u64,
     )
 }
 
-pub fn write_written(out: &mut [u8], at: usize, answer: Written) -> usize
+pub fn write_written(out: &mut [u8], at: usize, answer: Result<u32, Refusal>) -> usize
     requires { at + room ≤ length out.old }
     ensures { Puts (answer_text (written answer)) at out.old result out.new }
 {
     match answer {
-        Written::Done(pages) => write_one(out, at, b"(ok ", pages as u64),
-        Written::Refused(refusal) => write_refusal(out, at, refusal),
+        Ok(pages) => write_one(out, at, b"(ok ", pages as u64),
+        Err(refusal) => write_refusal(out, at, refusal),
     }
 }
 
-pub fn write_answer(out: &mut [u8], at: usize, answer: Answer) -> usize
+pub fn write_answer(out: &mut [u8], at: usize, answer: Result<Answer, Refusal>) -> usize
     requires { at + room ≤ length out.old }
     ensures { Puts (answer_text (answered answer)) at out.old result out.new }
 {
     match answer {
-        Answer::Found(hit) => {
+        Ok(Answer::Found(hit)) => {
             let tally = hit.tally;
             write_three(
                 out,
@@ -132,14 +103,14 @@ pub fn write_answer(out: &mut [u8], at: usize, answer: Answer) -> usize
                 tally.comparisons as u64,
             )
         }
-        Answer::Absent(tally) => write_two(
+        Ok(Answer::Absent(tally)) => write_two(
             out,
             at,
             b"(none ",
             tally.reads as u64,
             tally.comparisons as u64,
         ),
-        Answer::Refused(refusal) => write_refusal(out, at, refusal),
+        Err(refusal) => write_refusal(out, at, refusal),
     }
 }
 
@@ -151,6 +122,7 @@ pub fn write_bad(out: &mut [u8], at: usize) -> usize
 }
 
 // The bytes of a line of `write_put`.
+#[tactic(auto, using(crate::proofs::Printing::line_length))]
 pub fn put_length(key: u64, value: u64) -> usize
     ensures { result ≡ length (put_text key value) }
 {

@@ -2,10 +2,12 @@
 use Prim.Native.Nat.{ℕ, ◌+◌, ◌≤◌, ◌<◌, ◌^◌}
 use mathlib.Core.Bool.{true, false}
 use mathlib.Core.List.{List}
+use Rattle.std.specs.Prelude.{Result, Ok, Err}
 use mathlib.Core.Path.{◌≡◌, sym, ◌∙◌, ap}
 use native.Mathlib.Omega.{arith}
 use lib.ListN.{length, get_or}
 use Rattle.model.specs.declared.Geometry.{Geometry}
+use Rattle.model.specs.Answers as model
 use Rattle.model.specs.Answers.{done}
 use Rattle.model.specs.Bytes.{within}
 use Rattle.model.specs.Search.{first_from}
@@ -22,8 +24,8 @@ use Rattle.model.proofs.Checks.{fits-key}
 use Rattle.model.proofs.KeyedChecks.{appends-new}
 use Rattle.model.proofs.Entries.{count-emptied}
 use Rattle.model.proofs.Heads.{HeadWords, fits_after}
-use Rattle.model.proofs.Lengths.{length-with_batch, length-totalled, length-buffered, length-flushed, length-unlisted}
-use Rattle.model.proofs.Parts.{length-within, within_same}
+use Rattle.model.proofs.Lengths.{length-totalled, length-buffered, length-flushed, length-unlisted}
+use Rattle.model.proofs.Parts.{within_same}
 use Rattle.model.proofs.PartitionsCalls.{laid-flushed, put-kept, put-flushed}
 use Rattle.model.proofs.Totals.{total-flushed}
 use Rattle.model.proofs.Sizes.{sizes, partition-of-lt, page-of-lt}
@@ -36,7 +38,7 @@ use Rattle.partition.specs.Ready.{Whole, Storable, Flushable}
 use Rattle.partition.proofs.Lending.{key-whole, partition-words}
 use Rattle.partition.proofs.Changing.{changed-there, changed-again}
 use Rattle.put.specs.declared.Plan.{Plan}
-use Rattle.put.specs.declared.Plan.TheVariants.{Refused, Store, Flush}
+use Rattle.put.specs.declared.Plan.TheVariants.{Store, Flush}
 use Rattle.put.specs.Plans.{plan_for}
 use Rattle.put.proofs.Planning as planning
 use Rattle.put.proofs.Planning.{Means, plan-means, storable}
@@ -66,15 +68,10 @@ module _ (g : Geometry) (p : List ℕ) where
 
 -- memory and flash before the key is stored, what then leaves the total, and the pages written: the areas are as they were, or flushed
 pub data Ready (g : Geometry) (m f : List ℕ) (k v : ℕ) (m₁ f₁ : List ℕ) (less pages : ℕ) : Type 0 where
-  kept : plan_for g k v (partition g (partition_of g k) m) f ≡ Store → m₁ ≡ m → f₁ ≡ f → less ≡ 0 → pages ≡ 0 → Ready g m f k v m₁ f₁ less pages
-  flushed-first : plan_for g k v (partition g (partition_of g k) m) f ≡ Flush less
+  kept : plan_for g k v (partition g (partition_of g k) m) f ≡ Ok Store → m₁ ≡ m → f₁ ≡ f → less ≡ 0 → pages ≡ 0 → Ready g m f k v m₁ f₁ less pages
+  flushed-first : plan_for g k v (partition g (partition_of g k) m) f ≡ Ok (Flush less)
       → m₁ ≡ within (partition_at g (partition_of g k)) (stride g) (flushed g (partition_of g k)) m
       → f₁ ≡ with_batch g (partition_of g k) (partition g (partition_of g k) m) g.pages f → pages ≡ g.pages → Ready g m f k v m₁ f₁ less pages
-
-pub same-lengths : {g : Geometry} {m f : List ℕ} {k v : ℕ} {m₁ f₁ : List ℕ} {less pages : ℕ} → Ready g m f k v m₁ f₁ less pages → (length m₁ ≡ length m) × (length f₁ ≡ length f)
-same-lengths (kept h em ef el ep) = (ap length em, ap length ef)
-same-lengths {g} {m} {f} {k} (flushed-first h em ef ep) =
-    (rw em (length-within _ _ _ m), rw ef (length-with_batch g (partition_of g k) (partition g (partition_of g k) m) g.pages f))
 
 module _ (g : Geometry) (m f : List ℕ) (table : IsTable g m f) (k : ℕ) where
   abbrev t : ℕ
@@ -98,23 +95,23 @@ module _ (g : Geometry) (m f : List ℕ) (table : IsTable g m f) (k : ℕ) where
     checked = checks-put (areas m f) g table.own table.opens k v
 
     -- what the plan means for the key's partition
-    meant : (plan : Plan) → plan_for g k v own f ≡ plan → Means g k v own f plan
+    meant : (plan : Result Plan model.Refusal) → plan_for g k v own f ≡ plan → Means g k v own f plan
     meant plan h = rw h at (plan-means g k v own f)
 
-    pub refuses : (r : Refusal) → plan_for g k v own f ≡ Refused r → Performs (Call.put k v) m f (refusing r) m f
-    refuses r h = performing.refusing (Call.put k v) m f (as_refusal r) (checked ∙ meant (Refused r) h)
+    pub refuses : (r : Refusal) → Err (as_refusal r) ≡ plan_for g k v own f → Performs (Call.put k v) m f (refusing r) m f
+    refuses r h = performing.refusing (Call.put k v) m f (as_refusal r) (checked ∙ meant (Err (as_refusal r)) (sym h))
 
     -- ---- the key's partition lies in memory, and is flushed there
     module _ (key : k < 2 ^ 64) where
       below : t < partitions g
       below = partition-of-lt g table.fine k key
 
-      module _ (bytes : (i : ℕ) → get_or m i 0 < 256) (less : ℕ) (h : plan_for g k v own f ≡ Flush less) where
+      module _ (bytes : (i : ℕ) → get_or m i 0 < 256) (less : ℕ) (h : plan_for g k v own f ≡ Ok (Flush less)) where
         words : HeadWords (head_of own)
         words = partition-words g t m bytes
 
         pub can-flush : Flushable g t own
-        can-flush = let w = meant (Flush less) h in planning.can-flush g k v own f w.0 w.1 t below words
+        can-flush = let w = meant (Ok (Flush less)) h in planning.can-flush g k v own f w.0 w.1 t below words
 
         -- the partition behind the flush
         behind : (m₁ : List ℕ) → m₁ ≡ within at (stride g) (flushed g t) m → partition g t m₁ ≡ flushed g t own
@@ -123,7 +120,7 @@ module _ (g : Geometry) (m f : List ℕ) (table : IsTable g m f) (k : ℕ) where
         can-store-behind : (m₁ : List ℕ) → m₁ ≡ within at (stride g) (flushed g t) m
             → Storable g k (partition g t m₁) × (less ≤ total_of (partition g t m₁) + appends g k (partition g t m₁))
         can-store-behind m₁ e =
-            let w = meant (Flush less) h in
+            let w = meant (Ok (Flush less)) h in
             rw (behind m₁ e) (
               flushed-storable g own (whole key) words t k can-flush,
               omega (
@@ -138,7 +135,7 @@ module _ (g : Geometry) (m f : List ℕ) (table : IsTable g m f) (k : ℕ) where
         flushes : (m₁ f₁ m' : List ℕ) → m₁ ≡ within at (stride g) (flushed g t) m → f₁ ≡ with_batch g t own g.pages f
             → m' ≡ within at (stride g) (stores-in less) m₁ → Performs (Call.put k v) m f (done g.pages) m' f₁
         flushes m₁ f₁ m' e ef e' =
-            let w = meant (Flush less) h in
+            let w = meant (Ok (Flush less)) h in
             let same : put_in g k v f own ≡ stores-in less (flushed g t own) = put-flushed g k own v f w.1 ∙ rw (flushed-new g own (whole key) words t k can-flush, w.2) in
             let keeps : (p : List ℕ) → length (stores-in less p) ≡ length p = λ p. length-totalled _ less _ ∙ length-unlisted g k _ ∙ length-buffered g k v p in
             let both : m' ≡ within at (stride g) (put_in g k v f) m =
@@ -151,13 +148,13 @@ module _ (g : Geometry) (m f : List ℕ) (table : IsTable g m f) (k : ℕ) where
       -- ---- what is stored can be stored, and is what the definitions say
       module _ (bytes : (i : ℕ) → get_or m i 0 < 256) (m₁ f₁ : List ℕ) (less pages : ℕ) where
         pub can_store : Ready g m f k v m₁ f₁ less pages → Storable g k (partition g t m₁) × (less ≤ total_of (partition g t m₁) + appends g k (partition g t m₁))
-        can_store (kept h em ef el ep) = let w = meant Store h in rw em (storable g k v own f w.0 w.1, omega arith)
+        can_store (kept h em ef el ep) = let w = meant (Ok Store) h in rw em (storable g k v own f w.0 w.1, omega arith)
         can_store (flushed-first h em ef ep) = can-store-behind bytes less h m₁ em
 
         pub stores : (m' : List ℕ) → Ready g m f k v m₁ f₁ less pages → m' ≡ within at (stride g) (λ p. totalled (appends g k p) less (unlisted g k (buffered g k v p))) m₁
             → Performs (Call.put k v) m f (done pages) m' f₁
         stores m' (kept h em ef el ep) e =
-            let w = meant Store h in
+            let w = meant (Ok Store) h in
             let same : m' ≡ within at (stride g) (stores-in 0) m = rw (el, em) at e in
             rw ep (performing.doing (Call.put k v) m f 0 m' f₁ (checked ∙ w.0)
             (result-put (areas m f) g table.own k v false w.1)

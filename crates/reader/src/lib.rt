@@ -6,13 +6,6 @@ mod read;
 use model::Geometry;
 pub use read::read_line;
 
-// Three numbers below 2^32, each behind a text of its own, and the place behind them.
-#[derive(Clone, Copy)]
-pub enum Three {
-    Read(u32, u32, u32, usize),
-    Bad,
-}
-
 #[derive(Clone, Copy)]
 pub enum Form {
     Format(Geometry),
@@ -22,5 +15,4 @@ pub enum Form {
     Flush(u32),
     Count(u32),
     Drop(u32),
-    Bad,
 }

@@ -1,129 +1,84 @@
 // A line to its form: heads are compared with fixed byte strings, figures are read between them.
 ghost use Rattle.std.specs.Prelude.{◌≡◌, drop};
-ghost use Rattle.std.proofs.Math.Option.{Option};
 ghost use Rattle.model.specs.Text.{past};
-ghost use Rattle.model.specs.Calls.{Call};
 ghost use Rattle.model.specs.Session.{then, at_end, put_line, get_line, del_line, flush_line, count_line, drop_line, format_line, call_of};
-ghost use Rattle.reader.specs.Forms.{form_call};
-ghost use Rattle.reader.specs.Threes.{ThreeFigures, three_in, three_past};
+ghost use Rattle.reader.specs.Forms.{form_call, said};
 
-use crate::{Form, Three};
-use figures::{Behind, Narrow, Number, narrow_past, number_past, text_past};
+use crate::Form;
+use figures::{narrow_past, number_past, text_past};
 use model::Geometry;
 
-// The largest key and the largest value.
-const WIDE: u64 = 18446744073709551615;
-
 // The form, where the line ends with `text` from `at` on.
-fn ending(line: &[u8], at: usize, text: &[u8], form: Form) -> Form
-    ensures { form_call result ≡ then (form_call form) (λ c. then (past text.now (drop at line.now)) (at_end c)) }
+fn ending(line: &[u8], at: usize, text: &[u8], form: Form) -> Option<Form>
+    ensures { said result ≡ then (past text.now (drop at line.now)) (at_end (form_call form)) }
 {
-    let Behind::At(next) = text_past(line, at, text) else {
-        return Form::Bad;
-    };
+    let next = text_past(line, at, text)?;
     if next < line.len() {
-        return Form::Bad;
+        return None;
     }
-    form
+    Some(form)
 }
 
-fn read_put(line: &[u8]) -> Form
-    ensures { form_call result ≡ put_line line.now }
+#[tactic(auto, unfolding(model::specs::Session::put_line))]
+fn read_put(line: &[u8]) -> Option<Form>
+    ensures { said result ≡ put_line line.now }
 {
-    let Number::Read(key, at) = number_past(line, 0, b"(put ", WIDE) else {
-        return Form::Bad;
-    };
-    let Number::Read(value, at) = number_past(line, at, b" ", WIDE) else {
-        return Form::Bad;
-    };
+    let (key, at) = number_past(line, 0, b"(put ", u64::MAX)?;
+    let (value, at) = number_past(line, at, b" ", u64::MAX)?;
     ending(line, at, b")", Form::Put(key, value))
 }
 
-fn read_get(line: &[u8]) -> Form
-    ensures { form_call result ≡ get_line line.now }
+#[tactic(auto, unfolding(model::specs::Session::get_line))]
+fn read_get(line: &[u8]) -> Option<Form>
+    ensures { said result ≡ get_line line.now }
 {
-    let Number::Read(key, at) = number_past(line, 0, b"(get ", WIDE) else {
-        return Form::Bad;
-    };
+    let (key, at) = number_past(line, 0, b"(get ", u64::MAX)?;
     ending(line, at, b")", Form::Get(key))
 }
 
-fn read_del(line: &[u8]) -> Form
-    ensures { form_call result ≡ del_line line.now }
+#[tactic(auto, unfolding(model::specs::Session::del_line))]
+fn read_del(line: &[u8]) -> Option<Form>
+    ensures { said result ≡ del_line line.now }
 {
-    let Number::Read(key, at) = number_past(line, 0, b"(del ", WIDE) else {
-        return Form::Bad;
-    };
+    let (key, at) = number_past(line, 0, b"(del ", u64::MAX)?;
     ending(line, at, b")", Form::Del(key))
 }
 
-fn read_flush(line: &[u8]) -> Form
-    ensures { form_call result ≡ flush_line line.now }
+#[tactic(auto, unfolding(model::specs::Session::flush_line))]
+fn read_flush(line: &[u8]) -> Option<Form>
+    ensures { said result ≡ flush_line line.now }
 {
-    let Narrow::Read(partition, at) = narrow_past(line, 0, b"(flush ") else {
-        return Form::Bad;
-    };
+    let (partition, at) = narrow_past(line, 0, b"(flush ")?;
     ending(line, at, b")", Form::Flush(partition))
 }
 
-fn read_count(line: &[u8]) -> Form
-    ensures { form_call result ≡ count_line line.now }
+#[tactic(auto, unfolding(model::specs::Session::count_line))]
+fn read_count(line: &[u8]) -> Option<Form>
+    ensures { said result ≡ count_line line.now }
 {
-    let Narrow::Read(partition, at) = narrow_past(line, 0, b"(count ") else {
-        return Form::Bad;
-    };
+    let (partition, at) = narrow_past(line, 0, b"(count ")?;
     ending(line, at, b")", Form::Count(partition))
 }
 
-fn read_drop(line: &[u8]) -> Form
-    ensures { form_call result ≡ drop_line line.now }
+#[tactic(auto, unfolding(model::specs::Session::drop_line))]
+fn read_drop(line: &[u8]) -> Option<Form>
+    ensures { said result ≡ drop_line line.now }
 {
-    let Narrow::Read(partition, at) = narrow_past(line, 0, b"(drop ") else {
-        return Form::Bad;
-    };
+    let (partition, at) = narrow_past(line, 0, b"(drop ")?;
     ending(line, at, b")", Form::Drop(partition))
 }
 
-// Three numbers, each behind a text of its own.
-fn three_past(line: &[u8], at: usize, first: &[u8], second: &[u8], third: &[u8]) -> Three
-    ensures { (f : ThreeFigures → Option Call) → then (three_in line.now result) f ≡ three_past first.now second.now third.now (drop at line.now) f }
+#[tactic(auto, unfolding(model::specs::Session::format_line))]
+fn read_format(line: &[u8]) -> Option<Form>
+    ensures { said result ≡ format_line line.now }
 {
-    let Narrow::Read(a, at) = narrow_past(line, at, first) else {
-        return Three::Bad;
-    };
-    let Narrow::Read(b, at) = narrow_past(line, at, second) else {
-        return Three::Bad;
-    };
-    let Narrow::Read(c, at) = narrow_past(line, at, third) else {
-        return Three::Bad;
-    };
-    Three::Read(a, b, c, at)
-}
-
-fn read_format(line: &[u8]) -> Form
-    ensures { form_call result ≡ format_line line.now }
-{
-    let Three::Read(parts, page, pages, at) = three_past(
-        line,
-        0,
-        b"(format (parts ",
-        b") (page ",
-        b") (pages ",
-    ) else {
-        return Form::Bad;
-    };
-    let Three::Read(kept, bits, hashes, at) = three_past(
-        line,
-        at,
-        b") (kept ",
-        b") (bits ",
-        b") (hashes ",
-    ) else {
-        return Form::Bad;
-    };
-    let Narrow::Read(list, at) = narrow_past(line, at, b") (list ") else {
-        return Form::Bad;
-    };
+    let (parts, at) = narrow_past(line, 0, b"(format (parts ")?;
+    let (page, at) = narrow_past(line, at, b") (page ")?;
+    let (pages, at) = narrow_past(line, at, b") (pages ")?;
+    let (kept, at) = narrow_past(line, at, b") (kept ")?;
+    let (bits, at) = narrow_past(line, at, b") (bits ")?;
+    let (hashes, at) = narrow_past(line, at, b") (hashes ")?;
+    let (list, at) = narrow_past(line, at, b") (list ")?;
     let geometry = Geometry {
         parts,
         page,
@@ -137,32 +92,15 @@ fn read_format(line: &[u8]) -> Form
 }
 
 // The form that a line says.
-pub fn read_line(line: &[u8]) -> Form
-    ensures { form_call result ≡ call_of line.now }
+#[tactic(auto, unfolding(model::specs::Session::call_of))]
+pub fn read_line(line: &[u8]) -> Option<Form>
+    ensures { said result ≡ call_of line.now }
 {
-    let form = read_put(line);
-    let Form::Bad = form else {
-        return form;
-    };
-    let form = read_get(line);
-    let Form::Bad = form else {
-        return form;
-    };
-    let form = read_del(line);
-    let Form::Bad = form else {
-        return form;
-    };
-    let form = read_flush(line);
-    let Form::Bad = form else {
-        return form;
-    };
-    let form = read_count(line);
-    let Form::Bad = form else {
-        return form;
-    };
-    let form = read_drop(line);
-    let Form::Bad = form else {
-        return form;
-    };
-    read_format(line)
+    read_put(line)
+        .or_else(|| read_get(line))
+        .or_else(|| read_del(line))
+        .or_else(|| read_flush(line))
+        .or_else(|| read_count(line))
+        .or_else(|| read_drop(line))
+        .or_else(|| read_format(line))
 }

@@ -3,7 +3,7 @@ use mathlib.Core.Path.{◌≡◌, refl, sym, ◌∙◌, ap}
 use mathlib.Core.Logic.{⊎_elim}
 use mathlib.Core.Bool.{false, false≢true}
 use mathlib.Core.List.{List}
-use mathlib.Core.Option.{Option, none, some}
+use Rattle.std.specs.Prelude.{Option, None, Some}
 use Prim.Native.Nat.{ℕ, ◌+◌, ◌-◌, ◌*◌, ◌/◌, ◌≤◌, ◌<◌}
 use native.Mathlib.Omega.{arith}
 use lib.Dec.{eqb}
@@ -14,9 +14,9 @@ use Rattle.model.proofs.Parts.{lt-or-ge}
 use Rattle.model.proofs.Searching.{first-none, first-behind}
 use Rattle.records.specs.Lacking.{has_key, Lacking}
 
-none_of : {A : Type 0} (o : Option A) → is_some o ≡ false → o ≡ none
-none_of none e = refl
-none_of (some x) e = absurd (false≢true (sym e))
+none_of : {A : Type 0} (o : Option A) → is_some o ≡ false → o ≡ None
+none_of None e = refl
+none_of (Some x) e = absurd (false≢true (sym e))
 
 -- r records lack the key, and so do the m behind them
 pub lack-more : (key at : ℕ) (xs : List ℕ) (m r : ℕ) → ((i : ℕ) → i < r → has_key key at xs i ≡ false) → any_from m 0 (has_key key (at + 16 * r) xs) ≡ false → (i : ℕ) → i < r + m → has_key key at xs i ≡ false
@@ -27,23 +27,11 @@ lack-more key at xs m r before block i l =
     ap (λ x. eqb (word 8 xs x) key) e ∙ first-none _ m 0 (none_of _ block) (i - r) (omega arith) (omega arith))
     (lt-or-ge i r)
 
--- the records of so many bytes, whole blocks that begin at `at`, lack the key
-pub record Passed (key at : ℕ) (xs : List ℕ) (bytes : ℕ) : Type 0 where
-  pub blocks : ℕ
-  pub size : bytes ≡ 64 * blocks
-  pub lack : (i : ℕ) → i < 4 * blocks → has_key key at xs i ≡ false
-
-pub none_passed : (key at : ℕ) (xs : List ℕ) → Passed key at xs 0
-none_passed key at xs = record { blocks = 0; size = omega arith; lack = λ i l. absurd (omega arith) }
-
-pub one-passed : (key at bytes : ℕ) (xs : List ℕ) → Passed key at xs bytes → any_from 4 0 (has_key key (at + bytes) xs) ≡ false → Passed key at xs (bytes + 64)
-one-passed key at bytes xs p block =
-    let e : at + 16 * (4 * p.blocks) ≡ at + bytes = omega (arith, p.size) in
-    let more = lack-more key at xs 4 (4 * p.blocks) p.lack (ap (λ x. any_from 4 0 (has_key key x xs)) e ∙ block) in
-    record { blocks = p.blocks + 1; size = omega (arith, p.size); lack = λ i l. more i (omega arith) }
-
-pub passed-lacks : (key at n bytes : ℕ) (xs : List ℕ) → Passed key at xs bytes → bytes ≤ 64 * (n / 4) → Lacking key at xs n (bytes / 16)
-passed-lacks key at n bytes xs p l = record { within = omega (arith, p.size); lack = λ i h. p.lack i (omega (arith, p.size)) }
+-- b blocks lack the key, and so does the block behind them
+pub block-more : (key at b : ℕ) (xs : List ℕ) → ((i : ℕ) → i < 4 * b → has_key key at xs i ≡ false) → any_from 4 0 (has_key key (at + 64 * b) xs) ≡ false → (i : ℕ) → i < 4 * (b + 1) → has_key key at xs i ≡ false
+block-more key at b xs before block i l =
+    let e : at + 16 * (4 * b) ≡ at + 64 * b = omega arith in
+    lack-more key at xs 4 (4 * b) before (ap (λ x. any_from 4 0 (has_key key x xs)) e ∙ block) i (omega arith)
 
 -- the search for a key among n records from `from` on goes on behind r that lack it
 pub search-behind : (key n from r : ℕ) (xs : List ℕ) → Lacking key (16 * from) xs n r → first_record key n from xs ≡ first_record key (from + n - (from + r)) (from + r) xs

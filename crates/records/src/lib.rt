@@ -4,14 +4,7 @@
 ghost use Rattle.std.specs.Prelude.{◌≡◌, ◌+◌, ◌*◌, ◌≤◌, ◌<◌, eqb, length};
 ghost use Rattle.model.specs.Search.{any_from};
 ghost use Rattle.model.specs.Records.{first_record, closed_up};
-ghost use Rattle.records.specs.Found.{found_at};
 ghost use Rattle.records.specs.Lacking.{has_key, Lacking};
-
-#[derive(Clone, Copy)]
-pub enum Found {
-    At(usize),
-    Nothing,
-}
 
 // Has one of the four records that begin at `at` the key?
 fn is_in_block(s: &[u8], at: usize, key: u64) -> bool
@@ -30,39 +23,32 @@ fn is_in_block(s: &[u8], at: usize, key: u64) -> bool
     words::u64_at(s, at + 48) == key
 }
 
-// Whole blocks of four records without the key are passed over, of the n records that begin at `at`: nearly all records are other keys. A list, and a small page, mostly has no whole block.
+// Whole blocks of four records without the key are passed over, of the n records that begin at `at`: nearly all records are other keys.
 pub fn skip(s: &[u8], at: usize, key: u64, n: usize) -> usize
     requires { at + 16 * n ≤ length s.now }
     ensures { Lacking key at s.now n result }
 {
-    if n < 4 {
-        return 0;
-    }
-    let whole = 64 * (n / 4);
-    let mut passed = 0;
-    while passed < whole {
-        if is_in_block(s, at + passed, key) {
-            break;
+    let blocks = n / 4;
+    for block in 0..blocks {
+        if is_in_block(s, at + 64 * block, key) {
+            return 4 * block;
         }
-        passed += 64;
     }
-    passed / 16
+    4 * blocks
 }
 
 // The first of the n records from `from` on that has the key.
-pub fn search(s: &[u8], key: u64, n: usize, from: usize) -> Found
+pub fn search(s: &[u8], key: u64, n: usize, from: usize) -> Option<usize>
     requires { 16 * (from + n) ≤ length s.now }
-    ensures { found_at result ≡ first_record key n from s.now }
+    ensures { result ≡ first_record key n from s.now }
 {
-    let end = from + n;
-    let mut i = from + skip(s, 16 * from, key, n);
-    while i < end {
+    let first = from + skip(s, 16 * from, key, n);
+    for i in first..from + n {
         if words::u64_at(s, 16 * i) == key {
-            return Found::At(i);
+            return Some(i);
         }
-        i += 1;
     }
-    Found::Nothing
+    None
 }
 
 // Record i leaves the n records from `from` on: the later ones move down, and the last place becomes zero.

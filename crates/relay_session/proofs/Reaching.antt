@@ -1,5 +1,6 @@
 -- How far a session has come: the lines that were run, and the text that was read.
-use Prim.Native.Nat.{ℕ, ◌-◌, ◌≤◌, ◌<◌}
+use Prim.Native.Nat.{ℕ, zero, suc, ◌-◌, ◌≤◌, ◌<◌}
+use Rattle.std.specs.Prelude.{Option, None, Some, Result, Ok, Err}
 use mathlib.Core.List.{List, [], ◌++◌, append_assoc, append-nil}
 use mathlib.Core.Path.{◌≡◌, refl, sym, ◌∙◌, ap}
 use native.Mathlib.Omega.{arith}
@@ -12,8 +13,6 @@ use Rattle.lines.specs.Lines.{Whole, longest}
 use Rattle.lines.proofs.Lines.{whole-none, whole-more}
 use Rattle.session.proofs.Pieces.{leave-pieces}
 use Rattle.held.specs.declared.Rest.{Rest}
-use Rattle.held.specs.declared.Got.{Got}
-use Rattle.pieces.specs.declared.Next.{Next}
 use Rattle.held.specs.Held.{Held, held_bytes, AtStart, Within}
 use Rattle.pieces.specs.Pieces.{Went, MadeOf}
 use Rattle.relay_session.specs.Session.{IsSession}
@@ -41,9 +40,6 @@ module _ {rest : Rest} {xs : List ℕ} {a a₁ : Areas} (r : Reached rest xs a a
   runs : {at : ℕ} {ys : List ℕ} {a₂ : Areas} → Went at ys a₁ a₂ → a₂ ≡ lines_leave (lines_of (r.lines ++ take at ys)) a
   runs {at} {ys} w = rw (leave-pieces r.lines r.whole (take at ys) a, ← r.leaves) w.leaves
 
-  pub stops : IsSession a a₁
-  stops = record { text = r.lines; leaves = r.leaves }
-
   -- what is held stands at the start of the buffer, and a turn goes on from there
   module _ {n : ℕ} {ys : List ℕ} (k : AtStart n rest xs ys) (h : Held rest xs) where
     follows : (more : List ℕ) → lines_leave (lines_of (take n ys ++ more)) a₁ ≡ lines_leave (lines_of (r.text ++ more)) a
@@ -66,24 +62,21 @@ module _ {rest : Rest} {xs : List ℕ} {a a₁ : Areas} (r : Reached rest xs a a
             carries = λ more. goes_on w more ∙ ap (λ (zs : List ℕ). lines_leave (lines_of (zs ++ more)) a₁) (pieces rest'.end l) ∙ rw (append_assoc (take n ys), append_assoc r.text) (follows (piece ++ more));
           }
 
-      -- what the read told, and what was made of it
-      module _ (o o' : List ℕ) {a₂ : Areas} where
-        pub goes : {rest' : Rest} → longest < length later → (got : Got) → Within got (length later - n) → MadeOf got (Next.On rest') n later a₁ o o' a₂ → Reached rest' later a a₂ × Held rest' later
-        goes l Got.Failure m e = let z : ◌≡◌ {A = ℕ} 0 1 = cc in absurd (omega arith)
-        goes l Got.End m e = let z : ◌≡◌ {A = ℕ} 0 1 = cc in absurd (omega arith)
-        goes {rest'} l (Got.Bytes b) m e =
-            let w = rw (sym e.0) at e.1 in
-            let u = rw (sym e.0) at e.2 in (
-              reaches rest' (omega (arith, e.0)) w,
-              record { begins = omega (arith, w.within, length-take rest'.end later); within = omega (arith, e.0, m, kept-short k h); unended = u },
+      -- what was made of a read: the session goes on, and wherever it ends it was the session of some text
+      module _ (o o' : List ℕ) {E : Type 0} {a₂ : Areas} where
+        pub goes : {rest' : Rest} → longest < length later → length later ≡ length ys → (read : Result ℕ E) → Within read (length ys - n) → MadeOf read (Ok (Some rest')) n later a₁ o o' a₂ → Reached rest' later a a₂ × Held rest' later
+        goes l s (Err e) m f = absurd (cc)
+        goes l s (Ok zero) m f = absurd (cc)
+        goes {rest'} l s (Ok (suc b)) m f =
+            let w = rw (sym f.0) at f.1 in
+            let u = rw (sym f.0) at f.2 in (
+              reaches rest' (omega (arith, f.0)) w,
+              record { begins = omega (arith, w.within, length-take rest'.end later); within = omega (arith, f.0, m, kept-short k h); unended = u },
             )
 
-        pub ends : (got : Got) → MadeOf got Next.Ended n later a₁ o o' a₂ → IsSession a a₂
-        ends Got.Failure e = let z : ◌≡◌ {A = ℕ} 0 1 = cc in absurd (omega arith)
-        ends Got.End e = record { text = r.text; leaves = e.1.leaves ∙ rw keeps (rw (append-nil, append-nil) at (follows [])) }
-        ends (Got.Bytes b) e = absurd e
-
-        pub fails : (got : Got) → MadeOf got Next.Failed n later a₁ o o' a₂ → IsSession a a₂
-        fails Got.Failure e = record { text = r.lines; leaves = e.1 ∙ r.leaves }
-        fails Got.End e = let z : ◌≡◌ {A = ℕ} 0 1 = cc in absurd (omega arith)
-        fails (Got.Bytes b) e = record { text = _; leaves = runs e.went }
+        pub ends : (read : Result ℕ E) (next : Result (Option Rest) E) → MadeOf read next n later a₁ o o' a₂ → IsSession a a₂
+        ends (Err e) next f = record { text = r.lines; leaves = f.1 ∙ r.leaves }
+        ends (Ok zero) next f = record { text = r.text; leaves = f.1.leaves ∙ rw keeps (rw (append-nil, append-nil) at (follows [])) }
+        ends (Ok (suc b)) (Ok (Some rest')) f = record { text = _; leaves = runs f.1 }
+        ends (Ok (suc b)) (Ok None) f = absurd f
+        ends (Ok (suc b)) (Err e) f = record { text = _; leaves = runs f.went }

@@ -1,17 +1,15 @@
 // The session program: forms from standard input, one a line, over two areas of 32,768 zero bytes; answers to standard output.
 #![tactic(auto)]
 
-ghost use Rattle.std.specs.Prelude.{◌≡◌, ◌-◌, ◌≤◌, ◌<◌, length, take};
+ghost use Rattle.std.specs.Prelude.{◌≡◌, ◌≤◌, ◌<◌, length};
 ghost use Rattle.model.specs.Session.{zero_area, program_areas};
 ghost use Rattle.answers.specs.Performs.{areas};
-ghost use Rattle.lines.specs.Lines.{Unended, longest};
+ghost use Rattle.lines.specs.Lines.{longest};
 ghost use Rattle.printer.specs.Puts.{room};
-ghost use Rattle.held.specs.Held.{got_of};
-ghost use Rattle.pieces.specs.Pieces.{MadeOf};
 ghost use Rattle.relay_session.specs.Session.{IsSession};
 
-use held::{Rest, got_of, hold, read_behind};
-use pieces::{Next, run_piece};
+use held::{Rest, hold, read_behind};
+use pieces::run_piece;
 use std::io::Read;
 
 // One of the two areas.
@@ -22,26 +20,7 @@ fn area() -> [u8; 32768]
     [0; 32768]
 }
 
-// Goes on from the answer of a read behind the unfinished line that is held. There was free room, so an answer of 0 is the end of input.
-fn turn(
-    stdout: &impl Print,
-    memory: &mut [u8],
-    flash: &mut [u8],
-    input: &[u8],
-    held: usize,
-    answer: isize,
-    out: &mut [u8],
-) -> Next
-    requires room_in_bounds { room ≤ length out.old }
-    requires held_in_bounds { held < length input.now }
-    requires unended { Unended 0 (take held input.now) }
-    ensures { MadeOf (got_of answer (length input.now - held)) result held input.now (areas memory.old flash.old) out.old out.new (areas memory.new flash.new) }
-{
-    let got = got_of(answer, &input[held..]);
-    run_piece(stdout, memory, flash, input, held, got, out)
-}
-
-// Nothing says that input ends, so turns are counted down from a number that no run uses up.
+// Nothing says that input ends, so there are as many turns as no run uses up. The two buffers are fixed, each with how far it is filled beside it: the program has no heap.
 fn run(
     stdin: &mut impl Read,
     stdout: &impl Print,
@@ -57,16 +36,13 @@ fn run(
     ensures { IsSession program_areas (areas memory.new flash.new) }
 {
     let mut rest = Rest { at: 0, end: 0 };
-    let mut turns = u64::MAX;
-    while turns > 0 {
+    for _ in 0..u64::MAX {
         let held = hold(input, rest);
-        let answer = read_behind(stdin, input, held);
-        match turn(stdout, memory, flash, input, held, answer, out) {
-            Next::On(next) => rest = next,
-            Next::Ended => return,
-            Next::Failed => return,
-        }
-        turns -= 1;
+        let read = read_behind(stdin, input, held);
+        let Ok(Some(next)) = run_piece(stdout, memory, flash, input, held, read, out) else {
+            return;
+        };
+        rest = next;
     }
 }
 

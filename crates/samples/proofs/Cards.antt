@@ -2,7 +2,7 @@
 use Prim.Native.Nat.{ℕ}
 use mathlib.Core.Path.{◌≡◌, refl}
 use mathlib.Core.List.{List, [], ◌∷◌}
-use mathlib.Core.Option.{Option, none, some}
+use Rattle.std.specs.Prelude.{Option, None, Some}
 use Rattle.model.specs.Bytes.{zeros}
 use Rattle.model.specs.Geometry.{G}
 use Rattle.model.specs.Card.{most_flushes, first_lost}
@@ -33,17 +33,17 @@ spread = put 1 10 ∷ put 2 20 ∷ del 1 ∷ put 3 30 ∷ put 4 40 ∷ get 4 ∷
 pub cards :
     (flushes (one_page 9) ≡ 2)
     × (most_flushes G 9 ≡ 2)
-    × (gets (one_page 9) 0 ≡ some (some 1))
+    × (gets (one_page 9) 0 ≡ Some (Some 1))
     × (first_lost G ≡ 10)
     × (flushes (one_page 10) ≡ 3)
     × (most_flushes G 10 ≡ 3)
-    × (gets (one_page 10) 0 ≡ some none)
-    × (lasts (one_page 10) 0 ≡ some 1)
+    × (gets (one_page 10) 0 ≡ Some None)
+    × (lasts (one_page 10) 0 ≡ Some 1)
     × (puts_in spread ≡ 5)
     × (flushes spread ≡ 0)
     × (most_flushes G 5 ≡ 1)
-    × (lasts spread 1 ≡ none)
-    × (lasts spread 4 ≡ some 40)
-    × (lasts spread 5 ≡ none)
+    × (lasts spread 1 ≡ None)
+    × (lasts spread 4 ≡ Some 40)
+    × (lasts spread 5 ≡ None)
 unfolding computing most_flushes first_lost events puts_in flushes_done last_put one_page_from
 cards = (refl, refl, refl, refl, refl, refl, refl, refl, refl, refl, refl, refl, refl, refl)

@@ -2,7 +2,7 @@
 use Prim.Native.Nat.{ℕ, ◌^◌}
 use mathlib.Core.Path.{◌≡◌, refl}
 use mathlib.Core.List.{List, [], ◌∷◌}
-use mathlib.Core.Option.{Option, none, some}
+use Rattle.std.specs.Prelude.{Option, None, Some}
 use Rattle.model.specs.declared.Geometry.{Geometry}
 use Rattle.model.specs.Bytes.{zeros}
 use Rattle.model.specs.Geometry.{geometry}
@@ -22,7 +22,7 @@ abbrev history : ℕ → List Call → History
 history s cs = remember (blank (with s)) (events start (format (with s) ∷ cs))
 
 abbrev known : ℕ → ℕ → Option Known
-known v age = some (record { value = v; age = age })
+known v age = Some (record { value = v; age = age })
 
 -- key 1, then two batches, and a third
 abbrev two_flushes : List Call
@@ -48,17 +48,17 @@ two_drops = put 1 10 ∷ put 60 1 ∷ flush 0 ∷ put 61 2 ∷ flush 0 ∷ put 6
 pub samples :
     ((history 0 (put 1 10 ∷ [])).keys 1 ≡ known 10 0)
     × ((history 0 two_flushes).keys 1 ≡ known 10 2)
-    × ((history 0 three_flushes).keys 1 ≡ none)
+    × ((history 0 three_flushes).keys 1 ≡ None)
     × ((history 0 three_flushes).live 0 ≡ 2)
-    × ((history 0 (put 1 10 ∷ del 1 ∷ [])).keys 1 ≡ none)
+    × ((history 0 (put 1 10 ∷ del 1 ∷ [])).keys 1 ≡ None)
     × ((history 0 four_puts).keys 1 ≡ known 10 1)
     × ((history 0 four_puts).keys 4 ≡ known 40 0)
     × ((history 0 four_puts).put_pages ≡ 1)
     × ((history 1 (put (2 ^ 63) 5 ∷ put 1 10 ∷ flush 0 ∷ [])).keys (2 ^ 63) ≡ known 5 0)
-    × ((history 0 one_drop).keys 1 ≡ none)
+    × ((history 0 one_drop).keys 1 ≡ None)
     × ((history 0 one_drop).keys 61 ≡ known 2 1)
     × ((history 0 one_drop).live 0 ≡ 1)
-    × ((history 0 two_drops).keys 61 ≡ none)
+    × ((history 0 two_drops).keys 61 ≡ None)
     × ((history 0 two_drops).keys 62 ≡ known 3 0)
     × ((history 0 two_drops).live 0 ≡ 0)
     × ((history 1 (put (2 ^ 63) 5 ∷ flush 1 ∷ put 1 10 ∷ flush 0 ∷ drop 0 ∷ [])).keys (2 ^ 63) ≡ known 5 1)

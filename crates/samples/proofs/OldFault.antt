@@ -2,7 +2,7 @@
 -- The list entry must stay as long as that batch. (The areas are as small as the session's geometry allows.)
 use mathlib.Core.Path.{◌≡◌, refl}
 use mathlib.Core.List.{List, [], ◌∷◌}
-use mathlib.Core.Option.{some}
+use Rattle.std.specs.Prelude.{Some}
 use Rattle.model.specs.Bytes.{zeros}
 use Rattle.model.specs.Geometry.{G}
 use Rattle.model.specs.Page.{searched}
@@ -27,7 +27,7 @@ then = run start deleted_then_flushed
 pub old-fault :
     (replies start deleted_then_flushed ≡ done 0 ∷ done 0 ∷ done 1 ∷ found 10 (tally 1 1) (batch 1) ∷ done 0 ∷ done 0 ∷ done 1 ∷ [])
     × (passing G 1 (partition_in then 0) ≡ 1 ∷ [])
-    × (searched 1 (batch_page G 0 then.flash 1 0) ≡ some 1)
+    × (searched 1 (batch_page G 0 then.flash 1 0) ≡ Some 1)
     × (replies then (get 1 ∷ del 20 ∷ put 40 30 ∷ flush 0 ∷ get 1 ∷ del 20 ∷ get 20 ∷ [])
     ≡ absent (tally 0 0) ∷ refused 14 0 ∷ done 0 ∷ done 1 ∷ absent (tally 0 0) ∷ done 0 ∷ absent (tally 0 0) ∷ [])
 unfolding computing
@@ -53,11 +53,11 @@ pub drop-fault :
     (replies start deleted_then_dropped ≡ done 0 ∷ done 0 ∷ done 1 ∷ done 0 ∷ done 1 ∷ done 0 ∷ done 0 ∷ [])
     × (listed_of (partition_in less 0) ≡ 0)
     × (passing G 1 (partition_in less 0) ≡ [])
-    × (searched 1 (batch_page G 0 less.flash 1 0) ≡ some 1)
+    × (searched 1 (batch_page G 0 less.flash 1 0) ≡ Some 1)
     × (replies less put_again
     ≡ absent (tally 0 0) ∷ done 0 ∷ found 11 (tally 0 1) buffer ∷ done 1 ∷ found 11 (tally 1 1) (batch 3) ∷ found 20 (tally 1 1) (batch 2) ∷ done 0 ∷ done 0 ∷ done 1 ∷ [])
     × (passing G 1 (partition_in edge 0) ≡ 3 ∷ [])
-    × (searched 1 (batch_page G 0 edge.flash 3 0) ≡ some 1)
+    × (searched 1 (batch_page G 0 edge.flash 3 0) ≡ Some 1)
     × (replies edge (del 40 ∷ get 1 ∷ put 60 50 ∷ flush 0 ∷ get 1 ∷ del 40 ∷ get 40 ∷ [])
     ≡ refused 14 0 ∷ absent (tally 0 0) ∷ done 0 ∷ done 1 ∷ absent (tally 0 0) ∷ done 0 ∷ absent (tally 0 0) ∷ [])
     × (replies edge (drop 0 ∷ get 1 ∷ del 40 ∷ get 40 ∷ drop 0 ∷ drop 0 ∷ [])

@@ -1,11 +1,10 @@
 -- What the session's functions promise, of areas, lines and places of any kind.
-use Rattle.std.specs.Prelude.{ℕ, ◌+◌, ◌-◌, ◌≤◌, ◌<◌, cond, List, [], ◌∷◌, ◌≡◌, leb, length, take}
+use Rattle.std.specs.Prelude.{ℕ, ◌+◌, ◌-◌, ◌≤◌, ◌<◌, cond, List, [], ◌∷◌, ◌≡◌, leb, length, take, Option, None, Some}
 use Rattle.model.specs.Answers.{Areas}
 use Rattle.model.specs.Session.{line_prints, line_leaves, lines_of, lines_print, lines_leave}
 use Rattle.printer.specs.Puts.{Puts, room}
 use Rattle.lines.specs.Lines.{Unended, ended_lines, Whole}
 use Rattle.applying.specs.Applies.{Applies}
-use Rattle.session.specs.declared.Printed.{Printed}
 
 -- too little room, and nothing was done
 pub record Untouched (a : Areas) (at : ℕ) (before later : List ℕ) (a' : Areas) : Type 0 where
@@ -14,9 +13,9 @@ pub record Untouched (a : Areas) (at : ℕ) (before later : List ℕ) (a' : Area
   pub leaves : a' ≡ a
 
 -- a line is applied exactly where there is room
-abbrev pub Applied : Printed → List ℕ → Areas → ℕ → List ℕ → List ℕ → Areas → Type 0
-Applied (Printed.Until next) line a at before later a' = (at + room ≤ length before) × Applies line a at before next later a'
-Applied Printed.NoRoom line a at before later a' = Untouched a at before later a'
+abbrev pub Applied : Option ℕ → List ℕ → Areas → ℕ → List ℕ → List ℕ → Areas → Type 0
+Applied (Some next) line a at before later a' = (at + room ≤ length before) × Applies line a at before next later a'
+Applied None line a at before later a' = Untouched a at before later a'
 
 -- a run over the lines of a text: all that they print stands whole at the start of `later`, its length is n, and they leave a'
 pub record Ran (text : List ℕ) (a : Areas) (before : List ℕ) (n : ℕ) (later : List ℕ) (a' : Areas) : Type 0 where

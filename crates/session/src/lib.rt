@@ -11,13 +11,6 @@ use applying::perform;
 // Room for one answer: none has more than 40 bytes.
 const ROOM: usize = 72;
 
-// The place behind a line's answer.
-#[derive(Clone, Copy)]
-pub enum Printed {
-    Until(usize),
-    NoRoom,
-}
-
 // How far a run came: bytes of its input, and bytes that it printed.
 #[derive(Clone, Copy)]
 pub struct Progress {
@@ -31,23 +24,23 @@ fn has_room(out: &[u8], at: usize) -> bool
     out.len() >= ROOM && at <= out.len() - ROOM
 }
 
-// One line, without the byte that ends it; its answer goes to `out` from `at` on.
+// One line, without the byte that ends it; its answer goes to `out` from `at` on. Tells the place behind it; none where there is no room.
 pub fn apply_line(
     memory: &mut [u8],
     flash: &mut [u8],
     line: &[u8],
     out: &mut [u8],
     at: usize,
-) -> Printed
+) -> Option<usize>
     ensures { Applied result line.now (areas memory.old flash.old) at out.old out.new (areas memory.new flash.new) }
 {
     if !has_room(out, at) {
-        return Printed::NoRoom;
+        return None;
     }
-    Printed::Until(perform(memory, flash, line, out, at))
+    Some(perform(memory, flash, line, out, at))
 }
 
-// The whole lines that the input opens with, as far as `out` has room for their answers.
+// The whole lines that the input opens with, as far as `out` has room for their answers. No iterator over the lines: the room ends the run, and how far it came is told.
 pub fn run_lines(memory: &mut [u8], flash: &mut [u8], input: &[u8], out: &mut [u8]) -> Progress
     ensures takes { Takes result.taken input.now (areas memory.old flash.old) result.printed out.old }
     ensures ran { Ran (take result.taken input.now) (areas memory.old flash.old) out.old result.printed out.new (areas memory.new flash.new) }

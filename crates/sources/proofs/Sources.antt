@@ -1,5 +1,5 @@
 -- Each place that a text goes through is the buffer or a live batch; of what is readable each page there is whole, and one of a batch is the one expected.
-use Prim.Native.Nat.{ℕ, ◌+◌, ◌≤◌, ◌<◌}
+use Prim.Native.Nat.{ℕ, ◌+◌, ◌*◌, ◌≤◌, ◌<◌}
 use mathlib.Core.Bool.{true}
 use mathlib.Core.List.{List}
 use mathlib.Core.Logic.{⊎_elim}
@@ -18,10 +18,12 @@ use Rattle.model.proofs.Checks.{pages-fit}
 use Rattle.model.proofs.Heads.{head-fits, bounds-live}
 use Rattle.model.proofs.Lookup.{expected-head}
 use Rattle.model.proofs.Parts.{length-mid, lt-or-ge}
-use Rattle.model.proofs.Sizes.{slot_lt, slot-page-fits}
+use Rattle.model.proofs.Sizes.{sizes, slot_lt, slot-page-fits}
 use Rattle.model.proofs.TextGets.{live-expected}
 use Rattle.partition.proofs.Inside.{page-inside}
-use Rattle.sources.specs.Readable.{Readable, IsSource}
+use Rattle.answers.specs.Told.{place}
+use Rattle.sources.specs.Readable.{Readable, IsSource, IsSpot, spot_page}
+use Rattle.sources.specs.declared.Spot.{Spot}
 
 module _ (g : Geometry) (t : ℕ) (p f : List ℕ) (r : Readable g t p f) where
   live-batch : (i : ℕ) → i < live_of p → is_live (head_of p) (live_batch (head_of p) i) ≡ true
@@ -42,3 +44,14 @@ module _ (g : Geometry) (t : ℕ) (p f : List ℕ) (r : Readable g t p f) where
     length-mid _ _ f (batch-inside n q l),
     (expected-head g t n q (batch_page g t f n q) (batch-expected n q s l)).fits,
   )
+
+-- a page there, lent
+pub record Lent (g : Geometry) (page : List ℕ) : Type 0 where
+  pub long : length page ≡ g.page
+  pub few : count_of page ≤ capacity g
+  pub inside : 16 + 16 * count_of page ≤ length page
+
+pub lent : {g : Geometry} {s : Spot} {p f page : List ℕ} → IsSpot g s p f → page ≡ spot_page g s p f → Lent g page
+lent {g} {s} {p} {f} spot e =
+    let fits = source-page-fits g s.partition p f spot.readable (place s.at) s.page spot.source spot.below in
+    rw e (record { long = fits.0; few = fits.1; inside = omega (arith, fits.0, fits.1, (sizes g spot.readable.whole.fine).page-is) })

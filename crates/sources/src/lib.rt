@@ -68,13 +68,11 @@ fn is_failed(flash: &[u8], g: Geometry, t: u32, n: u32) -> bool
     ensures { result ≡ is_some (failed_page g t flash.now n) }
 {
     let slot = geometry::slot_of(g, n);
-    let mut q: u32 = 0;
-    while q < g.pages {
+    for q in 0..g.pages {
         let at = geometry::slot_page_at(g, t, slot, q);
         if !batch::is_expected_at(flash, at, g, t, n, q) {
             return true;
         }
-        q += 1;
     }
     false
 }
@@ -88,14 +86,11 @@ pub fn is_some_failed(part: &[u8], flash: &[u8], g: Geometry, t: u32) -> bool
     ensures { result ≡ some_batch_fails g t part.now flash.now }
 {
     let head = Head::read(part);
-    let count = head.live;
-    let dead = head.flushes - count;
-    let mut i: u32 = 0;
-    while i < count {
+    let dead = head.flushes - head.live;
+    for i in 0..head.live {
         if is_failed(flash, g, t, dead + 1 + i) {
             return true;
         }
-        i += 1;
     }
     false
 }

@@ -12,7 +12,6 @@ ghost use Rattle.partition.specs.Ready.{Whole, Storable};
 
 use head::Head;
 use model::Geometry;
-use records::Found;
 
 // The key's first list entry leaves, if it has one.
 fn unlist(part: &mut [u8], g: Geometry, key: u64)
@@ -22,11 +21,11 @@ fn unlist(part: &mut [u8], g: Geometry, key: u64)
 {
     let head = Head::read(part);
     match list::find(part, g, key) {
-        Found::At(i) => {
+        Some(i) => {
             list::strike(part, g, i, head.listed as usize);
             head::put_back(part, head.unlisted(1));
         }
-        Found::Nothing => {}
+        None => {}
     }
 }
 

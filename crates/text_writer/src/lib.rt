@@ -1,19 +1,19 @@
-// A partition's text, written into an area that has room for it; each function tells the place behind what it wrote.
+// A partition's text, written into an area as far as it has room; each function tells where its text ends, in the area or behind it.
 #![tactic(auto)]
 
-ghost use Rattle.std.specs.Prelude.{◌≡◌, ◌+◌, ◌<◌, ◌≤◌, length};
+ghost use Rattle.std.specs.Prelude.{◌≡◌, ◌+◌, ◌^◌, ◌<◌, ◌≤◌, length};
 ghost use Rattle.std.proofs.lemmas.List.Edits.{sets};
 ghost use Rattle.model.specs.Partition.{head_of};
 ghost use Rattle.model.specs.PartitionText.{source_text, partition_text};
 ghost use Rattle.answers.specs.Told as told;
-ghost use Rattle.printer.specs.Puts.{Puts};
 ghost use Rattle.page_reader.specs.Steps.{entry_of};
+ghost use Rattle.text_writer.specs.Fitting.{PutsIfFits};
 ghost use Rattle.sources.specs.Readable.{Readable, IsSource, IsSpot, spot_page, spot_line, spot_text};
 
 use answers::Place;
 use head::Head;
 use model::Geometry;
-use page_reader::{Entry, Step};
+use page_reader::Entry;
 use sources::Spot;
 
 // The entry's line, if it has one.
@@ -30,13 +30,17 @@ fn write_entry(
     requires spot { IsSpot g spot part.now flash.now }
     requires page_value { page.now ≡ spot_page g spot part.now flash.now }
     requires value { entry ≡ entry_of page.now entry.place }
-    requires place_in_bounds { from + length (spot_line g spot part.now flash.now entry.place) ≤ length text.old }
-    ensures { Puts (spot_line g spot part.now flash.now entry.place) from text.old result text.new }
+    requires bound { from + length (spot_line g spot part.now flash.now entry.place) < 2 ^ 64 }
+    ensures { PutsIfFits (spot_line g spot part.now flash.now entry.place) from text.old result text.new }
 {
-    if answering::answers_with(part, flash, g, spot, page, entry) {
-        return printer::write_put(text, from, entry.key, entry.value);
+    if !answering::answers_with(part, flash, g, spot, page, entry) {
+        return from;
     }
-    from
+    let end = from + printer::put_length(entry.key, entry.value);
+    if end <= text.len() {
+        printer::write_put(text, from, entry.key, entry.value);
+    }
+    end
 }
 
 // The lines of a page.
@@ -49,21 +53,15 @@ fn write_page<'a>(
     spot: Spot,
 ) -> usize
     requires spot { IsSpot g spot part.now flash.now }
-    requires flash_in_bounds { from + length (spot_text g spot part.now flash.now) ≤ length text.old }
-    ensures { Puts (spot_text g spot part.now flash.now) from text.old result text.new }
+    requires bound { from + length (spot_text g spot part.now flash.now) < 2 ^ 64 }
+    ensures { PutsIfFits (spot_text g spot part.now flash.now) from text.old result text.new }
 {
     let page = sources::page_at(part, flash, g, spot);
     let mut end = from;
-    let mut place: usize = 1;
-    loop {
-        match page_reader::entry_at(page, place) {
-            Step::Given(entry) => {
-                end = write_entry(text, end, part, flash, g, spot, page, entry);
-                place += 1;
-            }
-            Step::End => return end,
-        }
+    for entry in page_reader::new(page) {
+        end = write_entry(text, end, part, flash, g, spot, page, entry);
     }
+    end
 }
 
 // The lines of a source.
@@ -78,35 +76,32 @@ fn write_source<'a>(
 ) -> usize
     requires readable { Readable g t part.now flash.now }
     requires source { IsSource (head_of part.now) (told.place at) }
-    requires at_in_bounds { from + length (source_text g t part.now flash.now (told.place at)) ≤ length text.old }
-    ensures { Puts (source_text g t part.now flash.now (told.place at)) from text.old result text.new }
+    requires bound { from + length (source_text g t part.now flash.now (told.place at)) < 2 ^ 64 }
+    ensures { PutsIfFits (source_text g t part.now flash.now (told.place at)) from text.old result text.new }
 {
     let mut end = from;
-    let mut q: u32 = 0;
-    while q < g.pages {
+    for q in 0..g.pages {
         let spot = Spot {
             partition: t,
             at,
             page: q,
         };
         end = write_page(text, end, part, flash, g, spot);
-        q += 1;
     }
     end
 }
 
-// The whole text, from the area's first byte on.
-pub fn write<'a>(text: &mut [u8], part: &'a [u8], flash: &'a [u8], g: Geometry, t: u32)
-    requires readable { Readable g t part.now flash.now }
-    requires flash_in_bounds { length (partition_text g t part.now flash.now) ≤ length text.old }
-    ensures { text.new ≡ sets text.old 0 (partition_text g t part.now flash.now) }
+// The whole text, from the area's first byte on, where it has room; tells the text's length, also where it has not.
+pub fn write<'a>(text: &mut [u8], part: &'a [u8], flash: &'a [u8], g: Geometry, t: u32) -> usize
+    requires { Readable g t part.now flash.now }
+    ensures told { result ≡ length (partition_text g t part.now flash.now) }
+    ensures written { length (partition_text g t part.now flash.now) ≤ length text.old → text.new ≡ sets text.old 0 (partition_text g t part.now flash.now) }
 {
     let last = Head::read(part).live;
     let mut end: usize = 0;
-    let mut i: u32 = 0;
-    while i <= last {
+    for i in 0..=last {
         let at = sources::source(part, g, i);
         end = write_source(text, end, part, flash, g, t, at);
-        i += 1;
     }
+    end
 }

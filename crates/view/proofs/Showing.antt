@@ -3,6 +3,7 @@ use Prim.Native.Nat.{ℕ, ◌+◌, ◌≤◌, ◌<◌}
 use mathlib.Core.Bool.{Bool, true, false, cond}
 use mathlib.Core.List.{List}
 use mathlib.Core.Path.{◌≡◌}
+use Rattle.std.specs.Prelude.{Result, Ok, Err}
 use native.Mathlib.Omega.{arith}
 use lib.Dec.{eqb}
 use lib.ListN.{length}
@@ -15,6 +16,7 @@ use Rattle.model.specs.Batch.{batch_page}
 use Rattle.model.specs.View.{page_shown, viewed}
 use Rattle.model.proofs.Sizes.{partition-fits, buffer-fits, slot_lt, slot-page-fits}
 use Rattle.model.proofs.Calls.{viewed-page}
+use Rattle.answers.specs.declared.Refusal.{Refusal}
 use Rattle.answers.specs.declared.Viewed.{Viewed}
 use Rattle.answers.specs.Told as told
 use Rattle.answers.specs.Performs.{Inside}
@@ -28,10 +30,10 @@ Shows (shown (in_memory at size)) m f = at + size ≤ length m
 Shows (shown (in_flash at size)) m f = at + size ≤ length f
 Shows (refused n r) m f = Unit {0}
 
-told-inside : (r : Viewed) (m f : List ℕ) → Shows (told.viewed r) m f → Inside r m f
-told-inside (Viewed.Memory at size) m f h = h
-told-inside (Viewed.Flash at size) m f h = h
-told-inside (Viewed.Refused r) m f h = tt
+told-inside : (r : Result Viewed Refusal) (m f : List ℕ) → Shows (told.viewed r) m f → Inside r m f
+told-inside (Ok (Viewed.Memory at size)) m f h = h
+told-inside (Ok (Viewed.Flash at size)) m f h = h
+told-inside (Err r) m f h = tt
 
 module _ (g : Geometry) (t q n : ℕ) (m f : List ℕ) (ok : allowed g ≡ true) (lm : memory_need g ≤ length m) (lf : flash_need g ≤ length f) (lt : t < partitions g) (lq : q < g.pages) where
   flash-shown : (b : Bool) → Shows (cond b (shown (in_flash (slot_page_at g t (slot g n) q) g.page)) (refused 13 1)) m f
@@ -43,5 +45,5 @@ module _ (g : Geometry) (t q n : ℕ) (m f : List ℕ) (ok : allowed g ≡ true)
   page-shown false = flash-shown (expected g t n q (batch_page g t f n q))
 
   -- a page that is shown lies within its area
-  pub shown-inside : (r : Viewed) → told.viewed r ≡ viewed g t q n f → Inside r m f
+  pub shown-inside : (r : Result Viewed Refusal) → told.viewed r ≡ viewed g t q n f → Inside r m f
   shown-inside r e = told-inside r m f (rw (e, viewed-page g t q n f) (page-shown (eqb n 0)))

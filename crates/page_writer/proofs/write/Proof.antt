@@ -39,7 +39,7 @@ copy-numbered-requires c κs =
     let w = (start p).requires in
     let z = sizes _ w.fine in (
       omega (arith, inside _ _ _ _ b.slot_page_at-at.ensures (omega (arith, w.partition_below)) (omega (arith, slot-is-lt _ w.fine _ j.slot_of-j.ensures)) w.page_below w.flash_fits),
-      (omega (arith, b.buffer_at-from.ensures, page-inside _ _ (whole p) _ w.page_below), (omega (arith, z.page-min), omega (arith, z.page-blocks))),
+      (omega (arith, b.buffer_at-from.ensures, page-inside _ _ (whole p) _ w.page_below), omega (arith, z.page-min)),
     )
 
 returns : tie.Need-returns

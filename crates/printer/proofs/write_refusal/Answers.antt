@@ -1,5 +1,5 @@
 -- It is the definition's text of a refusal.
-use Rattle.std.proofs.Common.{arith}
+use Rattle.std.proofs.Common.{arith, rules}
 use Rattle.printer.proofs.Printing.{room-two}
 use Rattle.model.specs.Session.{answer_text}
 use Rattle.printer.proofs.write_refusal.Goals as goal
@@ -9,4 +9,4 @@ write_two-requires c = room-two _ _ _ (omega arith) (omega arith) _ _
 
 pub returns : goal.returns
 unfolding answer_text
-returns c = c.write_two.ensures
+returns c = search rules

@@ -1,0 +1,8 @@
+use Rattle.std.proofs.Common.{◌≡◌}
+use Rattle.model.specs.Bytes.{within}
+use Rattle.model.specs.Geometry.{filter_size}
+use Rattle.model.specs.Filter.{with_bits}
+use Rattle.filter.proofs.add_key.Given as goal
+
+abbrev pub invariant-loop-i : goal.invariant-loop-i
+invariant-loop-i l = l.s ≡ within l.at (filter_size l.g) (with_bits l.g l.x l.i) l.fn.s
