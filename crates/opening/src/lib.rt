@@ -25,7 +25,8 @@ pub fn geometry_of(memory: &[u8]) -> Geometry
     }
 }
 
-// 2, 11, 2, 3, or the geometry of a table.
+// 2, 11, 2, 3, or the geometry of a table. As a call of its own it would hand the geometry back through memory.
+#[inline(always)]
 pub fn open(memory: &[u8], flash: &[u8]) -> Result<Geometry, Reason>
     ensures { told_unread result ≡ opened memory.now flash.now }
 {
