@@ -1,13 +1,16 @@
-use Rattle.std.proofs.Common.{◌∙◌, ap}
-use Rattle.model.specs.Bytes.{mid}
-use native.Mathlib.Nat.{add-sub_cancel_left}
-use Rattle.model.proofs.Parts.{length-mid}
-use Rattle.words.proofs.Copying.{part_set}
+use Rattle.std.proofs.Common.{◌≡◌, ◌+◌, ◌*◌, ◌/◌, arith}
+use Rattle.words.proofs.Copying.{copy-on, copy-rest}
 use Rattle.words.proofs.copy.Goals as goal
 
-pub returns : goal.returns
-returns c =
+pub loop-block-preserved : goal.loop-block-preserved
+loop-block-preserved c =
     let a = c.args in
-    part_set a.at a.n a.dst.now (mid a.from a.n a.src.now) c.requires.n_in_bounds
-    (c.copy_from_slice.ensures.after ∙ ap (λ n. mid a.from n a.src.now) (add-sub_cancel_left a.from a.n))
-    (length-mid a.from a.n a.src.now c.requires.n_in_bounds_2)
+    let l = c.loop-block in
+    let more : 64 * (l.block + 1) ≡ 64 * l.block + 64 = omega arith in
+    rw more (copy-on a.dst.now a.src.now a.at a.from (64 * l.block) 64 l.invariant c.copy_block.ensures (omega arith) (omega arith) (omega arith))
+
+pub returns-then-done-n : goal.returns-then-done-n
+returns-then-done-n c =
+    let a = c.args in
+    let whole : c.loop-block.block ≡ a.n / 64 = omega arith in
+    copy-rest a.dst.now a.src.now a.at a.from (64 * (a.n / 64)) a.n (rw (← whole) c.loop-block.invariant) (omega arith) c.requires.n_in_bounds c.requires.n_in_bounds_2 c.copy_from_slice.ensures.after
