@@ -62,7 +62,7 @@ impl<'a> Iterator for Reader<'a> {
     ghost remaining = { λ r. at_most (count_of r.page.now + 1 - r.place) };
 
     fn next(&mut self) -> Option<Entry> {
-        let entry = step_at(self.page, self.place)?;
+        let entry = next(*self)?;
         self.place += 1;
         Some(entry)
     }
