@@ -2,15 +2,17 @@
 use Prim.Native.Nat.{ℕ, ◌+◌, ◌-◌, ◌*◌, ◌^◌, ◌≤◌, ◌<◌}
 use mathlib.Core.Bool.{Bool, true, false}
 use mathlib.Core.List.{List}
-use mathlib.Core.Path.{◌≡◌, ◌∙◌, ap₂}
+use mathlib.Core.Path.{◌≡◌, refl, sym, ◌∙◌, ap, ap₂}
 use native.Mathlib.Nat.{add-sub_cancel_left}
 use native.Mathlib.Omega.{arith}
+use borrow.Author.Tests.{eqb-true}
 use lib.ListN.{length}
-use Rattle.std.specs.Prelude.{Some, None}
+use Rattle.std.specs.Prelude.{Option, Some, None, unwrap_or}
 use Rattle.model.specs.declared.Geometry.{Geometry}
 use Rattle.model.specs.Bytes.{mid}
 use Rattle.model.specs.Geometry.{allowed, slot_page_at, flash_need}
 use Rattle.model.specs.Keys.{partition_of, page_of}
+use Rattle.model.specs.Records.{key_at}
 use Rattle.model.specs.Page.{count_of, value_at, searched, compared, expected}
 use Rattle.model.specs.Partition.{flushes_of, live_of, slot, batch_passes, passing, passing_from}
 use Rattle.model.specs.Answers.{Tally, tally, page_read, Answer, found, absent, refused, batch}
@@ -18,6 +20,7 @@ use Rattle.model.specs.Get.{hit_in, read_through}
 use Rattle.model.proofs.Passing.{pass-take, pass-skip, pass-end, passing-from}
 use Rattle.model.proofs.Lookup.{expected-fits, reads-each, read_none, read-batch}
 use Rattle.model.proofs.Parts.{length-mid}
+use Rattle.model.proofs.Searching.{first-at}
 use Rattle.model.proofs.Sizes.{partition-of-lt, page-of-lt, slot_lt, slot-page-fits, flash-max}
 
 -- ---- the key's page of batch n, and where it lies
@@ -51,6 +54,26 @@ module _ (g : Geometry) (k n : ℕ) where
         long = length-mid _ _ f (omega (arith, fits));
         room = λ x. expected-fits g _ _ _ _ ok x;
       }
+
+-- ---- where the search of a page stopped: at the entry that it found, or behind the used ones
+module _ (k : ℕ) (page : List ℕ) (i : ℕ) (stopped : i ≡ unwrap_or (searched k page) (count_of page + 1)) where
+  pub stopped-at : i ≤ count_of page → searched k page ≡ Some i
+  stopped-at l = go (searched k page) refl
+    where
+      go : (o : Option ℕ) → searched k page ≡ o → searched k page ≡ Some i
+      go (Some j) e = let s : i ≡ j = rw e at stopped in e ∙ ap Some (sym s)
+      go None e = let s : i ≡ count_of page + 1 = rw e at stopped in absurd (omega arith)
+
+  -- so the entry there has the key
+  pub stopped-key : i ≤ count_of page → key_at page i ≡ k
+  stopped-key l = eqb-true _ _ (first-at _ _ _ _ (stopped-at l)).passed
+
+  pub stopped-behind : count_of page < i → searched k page ≡ None
+  stopped-behind l = go (searched k page) refl
+    where
+      go : (o : Option ℕ) → searched k page ≡ o → searched k page ≡ None
+      go (Some j) e = let s : i ≡ j = rw e at stopped in absurd (omega (arith, (first-at _ _ _ _ e).high))
+      go None e = e
 
 -- ---- the answer after what was already spent
 module _ (g : Geometry) (k : ℕ) (p f : List ℕ) (already : Tally) where

@@ -13,7 +13,7 @@ use answers::{Answer, Hit, Place, Reason, Refusal, Tally};
 use head::Head;
 use model::Geometry;
 
-// Through the live batches whose filter passes, youngest first, up to the first entry with the key. The tally is that of the buffer page.
+// Through the live batches whose filter passes, youngest first, up to the first entry with the key. The tally is that of the buffer page. The entries of a page are gone through from where its search stopped: at the key's, or behind the used ones.
 pub fn read_through(
     part: &[u8],
     flash: &[u8],
@@ -34,10 +34,10 @@ pub fn read_through(
     let head = Head::read(part);
     let mut tally = already;
     let mut slot = head.flushes % g.kept;
-    for age in 0..head.live {
+    'batches: for age in 0..head.live {
         slot = geometry::slot_before(g, slot);
         if !filter::passes(part, g, slot, x) {
-            continue;
+            continue 'batches;
         }
         tally.reads += 1;
         let n = head.flushes - age;
@@ -51,12 +51,16 @@ pub fn read_through(
         }
         let e = at + g.page as usize;
         let page = &flash[at..e];
-        if let Some(i) = page_search::search(page, key, &mut tally) {
-            return Ok(Answer::Found(Hit {
-                value: page::value_at(page, i),
-                tally,
-                place: Place::Batch(n),
-            }));
+        let behind = page::count(page) + 1;
+        let stop = page_search::search(page, key, &mut tally).unwrap_or(behind);
+        for i in stop..behind {
+            if words::u64_at(page, 16 * i) == key {
+                return Ok(Answer::Found(Hit {
+                    value: page::value_at(page, i),
+                    tally,
+                    place: Place::Batch(n),
+                }));
+            }
         }
     }
     Ok(Answer::Absent(tally))

@@ -5,8 +5,8 @@ use Rattle.lookup.proofs.Reading.{LeftAt}
 use Rattle.lookup.proofs.read_through.Given as goal
 
 -- the answer is what the batches from this one on give, and the slot is that of the batch before it; a page has at most 255 entries
-abbrev pub invariant-loop-age : goal.invariant-loop-age
-invariant-loop-age l = record {
+abbrev pub invariant-batches : goal.invariant-batches
+invariant-batches l = record {
   few : l.head.live ≤ 32;
   flushed : l.head.live ≤ l.head.flushes;
   slotted : l.slot ≡ slot l.g (l.head.flushes - l.age + 1);
@@ -14,3 +14,7 @@ invariant-loop-age l = record {
   comparisons : l.tally.comparisons ≤ 255 * (l.age + 1);
   left : LeftAt l.g l.key l.part l.flash (as_tally l.fn.already) l.head.live l.head.flushes l.age (as_tally l.tally);
 }
+
+-- the loop stands where the search of the page stopped
+abbrev pub invariant-loop-i : goal.invariant-loop-i
+invariant-loop-i l = l.i ≡ l.stop
