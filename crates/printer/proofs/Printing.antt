@@ -1,21 +1,22 @@
 -- Bytes written one behind another, and room for them.
-use mathlib.Core.Path.{◌≡◌, refl, ◌∙◌}
+use mathlib.Core.Path.{◌≡◌, refl, sym, ◌∙◌}
 use mathlib.Core.List.{List, ◌++◌, append_assoc}
-use Prim.Native.Nat.{ℕ, ◌+◌, ◌-◌, ◌≤◌}
-use native.Mathlib.Nat.{add-sub_cancel_left}
+use Prim.Native.Nat.{ℕ, ◌+◌, ◌≤◌}
 use native.Mathlib.Omega.{arith}
-use borrow.Rule.Slice.PartMut.{put_mid}
-use lib.ListN.{length, length-append}
-use lib.Seq.{sets-eq, drop-drop}
+use lib.ListN.{length, length-append, take, drop}
+use Rattle.std.proofs.lemmas.List.{take-append-drop}
+use Rattle.std.proofs.lemmas.List.Edits.{sets-eq}
 use Rattle.model.proofs.Parts.{sets-append}
 use Rattle.model.specs.Text.{decimal}
 use Rattle.model.specs.PartitionText.{put_text}
 use Rattle.printer.specs.Puts.{Puts, room}
 use Rattle.model.proofs.Decimals.{length-decimal}
 
--- bytes copied into the part that they fill
-pub puts-copied : (bytes part xs : List ℕ) (at : ℕ) → at + length bytes ≤ length xs → part ≡ bytes → Puts bytes at xs (at + length bytes) (put_mid at (at + length bytes - at) xs part)
-puts-copied bytes part xs at h e = record { ends = refl; holds = rw (e, add-sub_cancel_left at (length bytes), sets-eq bytes xs at h, drop-drop, append_assoc) }
+-- bytes written in place, of which a writer tells where they begin: before them and behind them all is as it was
+pub puts-ending : (bytes xs ys : List ℕ) (start at : ℕ) → start + length bytes ≡ at + length bytes → at + length bytes ≤ length xs → take start ys ≡ take start xs → drop start ys ≡ bytes ++ drop (at + length bytes) xs → Puts bytes at xs (at + length bytes) ys
+puts-ending bytes xs ys start at e h before written =
+    let same : start ≡ at = omega (arith, e) in
+    record { ends = refl; holds = sym (take-append-drop start ys) ∙ rw (before, written, same, sets-eq bytes xs at h, append_assoc) }
 
 pub puts-append : {xs ys : List ℕ} {at p r : ℕ} {a b c : List ℕ} → Puts xs at a p b → Puts ys p b r c → Puts (xs ++ ys) at a r c
 puts-append {xs} {ys} {at} {p} {r} {a} {b} {c} f g =

@@ -4,6 +4,7 @@
 ghost use Rattle.std.specs.Prelude.{◌++◌, ◌+◌, ◌≤◌, length, ◌≡◌};
 ghost use Rattle.model.specs.Text.{text, decimal};
 ghost use Rattle.model.specs.PartitionText.{put_text};
+ghost use Rattle.model.specs.Answers.{refused};
 ghost use Rattle.model.specs.Session.{answer_text};
 ghost use Rattle.answers.specs.Told.{written, answered, refusing};
 ghost use Rattle.printer.specs.Puts.{Puts, room};
@@ -14,9 +15,10 @@ fn write_text(out: &mut [u8], at: usize, bytes: &[u8]) -> usize
     requires { at + length bytes.now ≤ length out.old }
     ensures { Puts bytes.now at out.old result out.new }
 {
-    let end = at + bytes.len();
-    out[at..end].copy_from_slice(bytes);
-    end
+    for i in 0..bytes.len() {
+        out[at + i] = bytes[i];
+    }
+    at + bytes.len()
 }
 
 // How many figures n has: one more than its logarithm, and 0 has one too.
@@ -32,8 +34,9 @@ fn write_decimal(out: &mut [u8], at: usize, n: u64) -> usize
     requires { at + length (decimal n) ≤ length out.old }
     ensures { Puts (decimal n) at out.old result out.new }
 {
-    let mut figures = itoa::Buffer::new();
-    write_text(out, at, figures.format(n).as_bytes())
+    let end = at + decimal_length(n);
+    itoa::write_digits(n, out, end);
+    end
 }
 
 // A text, a number, and the end of the answer.
@@ -64,17 +67,19 @@ fn write_three(out: &mut [u8], at: usize, head: &[u8], a: u64, b: u64, c: u64) -
     write_two(out, next, b" ", b, c)
 }
 
+// A refusal by its numbers, whichever they are; those of answers are the documents'.
+pub fn write_refused(out: &mut [u8], at: usize, number: u32, reads: u32) -> usize
+    requires { at + room ≤ length out.old }
+    ensures { Puts (answer_text (refused number reads)) at out.old result out.new }
+{
+    write_two(out, at, b"(refused ", number as u64, reads as u64)
+}
+
 fn write_refusal(out: &mut [u8], at: usize, refusal: Refusal) -> usize
     requires { at + room ≤ length out.old }
     ensures { Puts (answer_text (refusing refusal)) at out.old result out.new }
 {
-    write_two(
-        out,
-        at,
-        b"(refused ",
-        refusal.reason.number() as u64,
-        refusal.reads as u64,
-    )
+    write_refused(out, at, refusal.reason.number(), refusal.reads)
 }
 
 pub fn write_written(out: &mut [u8], at: usize, answer: Result<u32, Refusal>) -> usize

@@ -2,7 +2,7 @@
 use Rattle.std.proofs.Common.{arith, rules}
 use Rattle.printer.proofs.Printing.{room-two}
 use Rattle.model.specs.Session.{answer_text}
-use Rattle.printer.proofs.write_refusal.Goals as goal
+use Rattle.printer.proofs.write_refused.Goals as goal
 
 pub write_two-requires : goal.write_two-requires
 write_two-requires c = room-two _ _ _ (omega arith) (omega arith) _ _
