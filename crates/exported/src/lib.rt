@@ -1,8 +1,8 @@
 // What the C interface gives: one struct for the answers of all calls, and one for a card's figures.
 #![tactic(auto)]
 
-ghost use Rattle.std.specs.Prelude.{◌≡◌, ◌<◌, ◌^◌};
-ghost use Rattle.model.specs.Answers.{found};
+ghost use Rattle.std.specs.Prelude.{◌≡◌, ◌<◌, ◌^◌, Err};
+ghost use Rattle.model.specs.Answers.{found, refused};
 ghost use Rattle.answers.specs.Told.{numbered, as_tally, refusing, written, place, answered, viewed};
 ghost use Rattle.exported.specs.Exported.{answer, batch_of, exported, exported_text, exported_card, SizeFits};
 
@@ -40,17 +40,24 @@ const NONE: u32 = 2;
 
 const REFUSED: u32 = 3;
 
-fn of_refusal(refusal: Refusal) -> MxAnswer
-    ensures { result ≡ exported (refusing refusal) }
+// A refusal by its numbers, whichever they are; those of outcomes are the documents'.
+pub fn of_refused(number: u32, reads: u32) -> MxAnswer
+    ensures { result ≡ exported (refused number reads) }
 {
     MxAnswer {
         status: REFUSED,
-        number: refusal.reason.number(),
-        reads: refusal.reads,
+        number,
+        reads,
         batch: 0,
         value: 0,
         comparisons: 0,
     }
+}
+
+fn of_refusal(refusal: Refusal) -> MxAnswer
+    ensures { result ≡ exported (refusing refusal) }
+{
+    of_refused(refusal.reason.number(), refusal.reads)
 }
 
 // Functions by name, and no `From`: pages and bytes are both a `u32`, and `of_viewed` asks that a size fits.
@@ -154,6 +161,20 @@ pub fn of_viewed(outcome: Result<Viewed, Refusal>) -> MxAnswer
     }
 }
 
+// Figures refused with any number, as `of_refused`.
+pub fn of_refused_figures(refusal: u32) -> MxCard
+    ensures { result ≡ exported_card (Err refusal) }
+{
+    MxCard {
+        status: REFUSED,
+        number: refusal,
+        memory: 0,
+        flash: 0,
+        flushes: 0,
+        first_lost: 0,
+    }
+}
+
 pub fn of_figures(outcome: Result<Card, Reason>) -> MxCard
     ensures { result ≡ exported_card (numbered outcome) }
 {
@@ -166,13 +187,6 @@ pub fn of_figures(outcome: Result<Card, Reason>) -> MxCard
             flushes: card.flushes,
             first_lost: card.first_lost,
         },
-        Err(reason) => MxCard {
-            status: REFUSED,
-            number: reason.number(),
-            memory: 0,
-            flash: 0,
-            flushes: 0,
-            first_lost: 0,
-        },
+        Err(reason) => of_refused_figures(reason.number()),
     }
 }
