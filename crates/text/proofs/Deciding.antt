@@ -1,5 +1,6 @@
 -- What is left of the checks of a readable partition is the room, and what passes them all is readable and has room; what the code tells says which it was.
-use Rattle.std.proofs.Common.{◌≡◌, ◌≤◌, ◌<◌, ℕ, Bool, true, false, List, Option, Some, None, Ok, Err, ltb, length, refl, ◌∙◌}
+use Rattle.std.proofs.Common.{◌≡◌, ◌≤◌, ◌<◌, ℕ, Bool, true, false, List, [], ◌∷◌, Option, Some, None, Ok, Err, ltb, length, refl, ◌∙◌, arith}
+use Rattle.std.proofs.lemmas.List.Edits.{sets}
 use Rattle.std.proofs.lemmas.Bool.{lt-ltb, le-ltb, ltb-false}
 use Rattle.model.specs.declared.Geometry.{Geometry}
 use Rattle.model.specs.Geometry.{partitions, flash_need}
@@ -24,6 +25,11 @@ refuses None x r e = absurd (cc)
 pub passed : {A : Type 0} (o : Option Refusal) (x y : A) → Ok y ≡ unless o x → (o ≡ None) × (y ≡ x)
 passed (Some s) x y e = absurd (cc)
 passed None x y e = (refl, cc)
+
+-- a text of no bytes leaves its area as it was
+pub nothing-written : (bytes xs : List ℕ) → length bytes ≡ 0 → xs ≡ sets xs 0 bytes
+nothing-written [] xs e = refl
+nothing-written (b ∷ bs) xs e = absurd (omega (arith, e))
 
 module _ (g : Geometry) (t room : ℕ) (p f : List ℕ) (below : t < partitions g) where
   module _ (head : head_overfull g (head_of p) ≡ false) (pages : some_page_overfull g p ≡ false) (batches : some_batch_fails g t p f ≡ false) where

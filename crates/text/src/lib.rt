@@ -60,6 +60,10 @@ pub fn call<'a>(
     }
     let part = partition::part_of(memory, g, t);
     let length = decide(part, flash, g, t, text.len())?;
+    // A partition with no line is not gone through again.
+    if length == 0 {
+        return Ok(0);
+    }
     text_writer::write(text, part, flash, g, t);
     Ok(length)
 }

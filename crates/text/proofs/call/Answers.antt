@@ -7,7 +7,7 @@ use Rattle.model.proofs.Checks.{text-4}
 use Rattle.model.proofs.Calls.{checks-text, result-text, effect-text, reply-refused, reply-accepted, text-written, text-unwritten}
 use Rattle.answers.proofs.Performing.{refusing, looking}
 use Rattle.partition.proofs.Lending.{partition-whole}
-use Rattle.text.proofs.Deciding.{refuses, passed, readable}
+use Rattle.text.proofs.Deciding.{refuses, passed, nothing-written, readable}
 use Rattle.text.proofs.call.Goals as goal
 
 pub returns-then-partition_count-t-clause-performs : goal.returns-then-partition_count-t-clause-performs
@@ -46,6 +46,18 @@ write-requires c =
     let w = c.requires in
     let l : c.args.t < partitions c.args.g = omega arith in
     (readable _ _ _ _ _ l (rw c.part_of-part.ensures (partition-whole _ _ w.fine w.memory_fits _ l)) w.flash_fits (passed _ _ _ c.in_ok-length.ensures).0).0
+
+pub returns-then-length-eq0-clause-performs : goal.returns-then-length-eq0-clause-performs
+returns-then-length-eq0-clause-performs c =
+    let w = c.requires in
+    let told = passed _ _ _ (rw c.part_of-part.ensures at c.in_ok-length.ensures) in
+    looking _ _ _ _ (checks-text _ _ w.own w.opens _ _ ∙ told.0) (result-text _ _ w.own _ _) (ap done (omega (arith, told.1))) (effect-text _ _ _)
+
+pub returns-then-length-eq0-clause-text_after : goal.returns-then-length-eq0-clause-text_after
+returns-then-length-eq0-clause-text_after c =
+    let w = c.requires in
+    let told = passed _ _ _ (rw c.part_of-part.ensures at c.in_ok-length.ensures) in
+    rw (text-written _ _ w.own _ _ (reply-accepted _ _ (checks-text _ _ w.own w.opens _ _ ∙ told.0) ∙ result-text _ _ w.own _ _)) (nothing-written _ _ (sym told.1 ∙ omega arith))
 
 pub returns-clause-performs : goal.returns-clause-performs
 returns-clause-performs c =
