@@ -45,8 +45,8 @@ fn add_key(s: &mut [u8], at: usize, g: Geometry, x: u64)
     requires g_in_bounds { at + filter_size g ≤ length s.old }
     ensures { s.new ≡ within at (filter_size g) (with_bits g x g.hashes) s.old }
 {
-    for i in 0..g.hashes {
-        let b = bit_of(g, x, i);
+    for bit in 0..g.hashes {
+        let b = bit_of(g, x, bit);
         let byte = at + b / 8;
         s[byte] = s[byte] | (1u8 << (b % 8));
     }

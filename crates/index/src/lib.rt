@@ -29,8 +29,10 @@ pub fn put(memory: &mut [u8], flash: &mut [u8], key: u64, value: u64) -> Result<
 pub fn get(memory: &[u8], flash: &[u8], key: u64) -> Result<Answer, Refusal>
     ensures { Performs (Call.get key) memory.now flash.now (answered result) memory.now flash.now }
 {
-    let g = opening::open(memory, flash)?;
-    get::call(memory, flash, g, key)
+    match opening::open(memory, flash) {
+        Ok(g) => get::call(memory, flash, g, key),
+        Err(reason) => Err(Refusal { reason, reads: 0 }),
+    }
 }
 
 // The key is found no more, until it is put again.
@@ -90,8 +92,10 @@ pub fn view_outcome(
     ensures performs { Performs (Call.view partition page flush) memory.now flash.now (viewed result) memory.now flash.now }
     ensures inside { Inside result memory.now flash.now }
 {
-    let g = opening::open(memory, flash)?;
-    view::call(memory, flash, g, partition, page, flush)
+    match opening::open(memory, flash) {
+        Ok(g) => view::call(memory, flash, g, partition, page, flush),
+        Err(reason) => Err(reason.into()),
+    }
 }
 
 // The page itself, as a part of memory or of flash; of a refused view, an empty part of memory.

@@ -12,7 +12,14 @@ pub fn search(page: &[u8], key: u64, tally: &mut Tally) -> Option<usize>
     ensures { (result ≡ searched key page.now) × (tally.new.reads ≡ tally.old.reads) × (tally.new.comparisons ≡ tally.old.comparisons + compared key page.now) }
 {
     let entries = page::count(page);
-    let found = page::search(page, key);
-    tally.comparisons += found.unwrap_or(entries) as u32;
-    found
+    match page::search(page, key) {
+        Some(i) => {
+            tally.comparisons += i as u32;
+            Some(i)
+        }
+        None => {
+            tally.comparisons += entries as u32;
+            None
+        }
+    }
 }

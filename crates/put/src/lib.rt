@@ -73,7 +73,8 @@ pub fn decide_room(part: &[u8], flash: &[u8], g: Geometry, key: u64) -> Result<P
     if buffer::is_key_overfull(part, g, key) {
         return Err(Reason::Overfull.into());
     }
-    if !is_due(part, g, key) {
+    let due = is_due(part, g, key);
+    if !due {
         return plan_store(part, g, key);
     }
     if buffer::is_some_page_overfull(part, g) {

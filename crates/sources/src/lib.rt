@@ -86,8 +86,9 @@ pub fn is_some_failed(part: &[u8], flash: &[u8], g: Geometry, t: u32) -> bool
     ensures { result ≡ some_batch_fails g t part.now flash.now }
 {
     let head = Head::read(part);
-    let dead = head.flushes - head.live;
-    for i in 0..head.live {
+    let count = head.live;
+    let dead = head.flushes - count;
+    for i in 0..count {
         if is_failed(flash, g, t, dead + 1 + i) {
             return true;
         }

@@ -17,6 +17,9 @@ module _ (g : Geometry) (s : Spot) (p f : List ℕ) (e : Entry) where
   pub fits-silent : {at : ℕ} {text : List ℕ} → spot_answers g s p f e.place ≡ false → PutsIfFits (spot_line g s p f e.place) at text at text
   fits-silent silent = rw (no-line g s p f e silent) fits-none
 
+  pub fits-told : {at r : ℕ} {text : List ℕ} → r ≡ at → spot_answers g s p f e.place ≡ false → PutsIfFits (spot_line g s p f e.place) at text r text
+  fits-told same silent = rw same (fits-silent silent)
+
   module _ (page : List ℕ) (lends : page ≡ spot_page g s p f) (own : e ≡ entry_of page e.place) (answers : spot_answers g s p f e.place ≡ true) where
     pub fits-put : {at r n : ℕ} {before later : List ℕ} → n ≡ length (put_text e.key e.value) → Puts (put_text e.key e.value) at before r later → PutsIfFits (spot_line g s p f e.place) at before (at + n) later
     fits-put {at} {r} {n} {before} en put =

@@ -57,8 +57,9 @@ fn write_page<'a>(
     ensures { PutsIfFits (spot_text g spot part.now flash.now) from text.old result text.new }
 {
     let page = sources::page_at(part, flash, g, spot);
+    let entries = page_reader::new(page);
     let mut end = from;
-    for entry in page_reader::new(page) {
+    for entry in entries {
         end = write_entry(text, end, part, flash, g, spot, page, entry);
     }
     end
@@ -98,8 +99,9 @@ pub fn write<'a>(text: &mut [u8], part: &'a [u8], flash: &'a [u8], g: Geometry, 
     ensures written { length (partition_text g t part.now flash.now) ≤ length text.old → text.new ≡ sets text.old 0 (partition_text g t part.now flash.now) }
 {
     let last = Head::read(part).live;
+    let count = last + 1;
     let mut end: usize = 0;
-    for i in 0..=last {
+    for i in 0..count {
         let at = sources::source(part, g, i);
         end = write_source(text, end, part, flash, g, t, at);
     }

@@ -4,5 +4,5 @@ use Rattle.model.specs.Geometry.{filter_size}
 use Rattle.model.specs.Filter.{with_bits}
 use Rattle.filter.proofs.add_key.Given as goal
 
-abbrev pub invariant-loop-i : goal.invariant-loop-i
-invariant-loop-i l = l.s ≡ within l.at (filter_size l.g) (with_bits l.g l.x l.i) l.fn.s
+abbrev pub invariant-loop-bit : goal.invariant-loop-bit
+invariant-loop-bit l = l.s ≡ within l.at (filter_size l.g) (with_bits l.g l.x l.bit) l.fn.s

@@ -1,11 +1,9 @@
 -- What the checks refuse stops the call; on a table the call is that of its own crate.
-use Rattle.std.proofs.Common.{refl}
-use Rattle.answers.specs.Told.{viewed}
-use Rattle.opening.proofs.Opening.{opened-table, opening-stops}
+use Rattle.opening.proofs.Opening.{opened-table, refuses}
 use Rattle.index.proofs.view_outcome.Goals as goal
 
-pub returns-in_err-g-clause-performs : goal.returns-in_err-g-clause-performs
-returns-in_err-g-clause-performs c = opening-stops _ _ _ c.in_err-g.ensures viewed _ tt _ c.from_residual.ensures.1 refl
-
 pub call-requires : goal.call-requires
-call-requires c = opened-table _ _ _ c.in_ok-g.ensures
+call-requires c = opened-table _ _ _ c.in-Ok.ensures
+
+pub returns-in-Err-clause-performs : goal.returns-in-Err-clause-performs
+returns-in-Err-clause-performs c = rw c.into.ensures (refuses _ _ _ c.in-Err.ensures _ tt)

@@ -1,10 +1,10 @@
 use Rattle.std.proofs.Common.{length, sym, ◌∙◌, ap, arith}
 use Rattle.answering.proofs.Entries.{line}
-use Rattle.text_writer.proofs.Lines.{fits-silent, fits-put, fits-not}
+use Rattle.text_writer.proofs.Lines.{fits-told, fits-put, fits-not}
 use Rattle.text_writer.proofs.write_entry.Goals as goal
 
 pub returns-then-not-answers_with : goal.returns-then-not-answers_with
-returns-then-not-answers_with c = fits-silent _ _ _ _ c.args.entry (sym c.answers_with.ensures ∙ c.if-not-answers_with.true)
+returns-then-not-answers_with c = fits-told _ _ _ _ c.args.entry (omega arith) (sym c.answers_with.ensures ∙ c.if-not-answers_with.true)
 
 pub overflow_add-end : goal.overflow_add-end
 overflow_add-end c =

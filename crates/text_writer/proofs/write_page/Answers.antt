@@ -13,8 +13,8 @@ use Rattle.text_writer.proofs.write_page.Goals as goal
 pub loop-entry-init : goal.loop-entry-init
 loop-entry-init c =
     let made = c.into_iter-entry-iterator.ensures.into_iter_gives in
-    let page = ap (λ (r : Reader). r.page.now) made ∙ ap (λ (b : Bor (List ℕ)). b.now) c.new-entry-items.ensures.0 in
-    let place = ap (λ (r : Reader). r.place) made ∙ c.new-entry-items.ensures.1 in
+    let page = ap (λ (r : Reader). r.page.now) made ∙ ap (λ (b : Bor (List ℕ)). b.now) c.new-entries.ensures.0 in
+    let place : c.into_iter-entry-iterator.result.place ≡ 1 = omega (arith, ap (λ (r : Reader). r.place) made, c.new-entries.ensures.1) in
     rw (page, place) (record { can = (lent c.requires.spot c.page_at-page.ensures).inside; ends = tt; page = refl; first = omega arith; most = omega arith; put = rw lines-first fits-none })
 
 pub write_entry-end-requires-clause-value : goal.write_entry-end-requires-clause-value
